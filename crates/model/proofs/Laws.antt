@@ -1,10 +1,15 @@
 -- Facts about the words of the definition, which the theorems share.
-use Prim.Native.Nat.{ℕ}
-use mathlib.Core.Path.{_≡_, refl}
+use Prim.Native.Nat.{ℕ, suc, _≤_, _<_}
+use mathlib.Core.Path.{_≡_, refl, ap}
 use mathlib.Core.Bool.{Bool, true, false, _&&_, false≢true}
 use mathlib.Core.List.{List, [], _∷_, _++_}
 use mathlib.Core.Option.{Option, some, none}
-use Rattle.model.specs.Tests.{pick, all, first}
+use native.Mathlib.Omega.{arith}
+use lib.ListN.{length, length-append}
+use lib.Dec.{leb, ltb}
+use borrow.Author.Tests.{ltb-true, le-leb}
+use Rattle.model.specs.Tests.{pick, all, any, first, changeFirst, without, enter}
+use Rattle.model.specs.Config.{tableWithin}
 
 -- both tests pass
 pub both : {a b : Bool} → a ≡ true → b ≡ true → (a && b) ≡ true
@@ -37,3 +42,69 @@ first-all p q (b ∷ l) a h e = go (first-all p q l a (right (q b) (all q l) h))
 pub all-snoc : {A : Type 0} (q : A → Bool) (l : List A) (a : A) → all q l ≡ true → q a ≡ true → all q (l ++ (a ∷ [])) ≡ true
 all-snoc q [] a h e = both e refl
 all-snoc q (b ∷ l) a h e = both (left (q b) (all q l) h) (all-snoc q l a (right (q b) (all q l) h) e)
+
+-- for Valid and Leaves
+
+-- a lookup gives nothing, or an element that passes the test that all pass: what holds of both holds of what it gives
+pub first-or : {A : Type 0} (P : Option A → Type 0) (p q : A → Bool) (l : List A) → all q l ≡ true → P none → ((a : A) → q a ≡ true → P (some a)) → P (first p l)
+first-or P p q [] h n f = n
+first-or P p q (a ∷ l) h n f = either P (p a) (f a (left (q a) (all q l) h)) (first-or P p q l (right (q a) (all q l) h) n f)
+
+-- a list with one changed is as long as it was
+pub length-changeFirst : {A : Type 0} (p : A → Bool) (f : A → A) (l : List A) → length (changeFirst p f l) ≡ length l
+length-changeFirst p f [] = refl
+length-changeFirst p f (a ∷ l) = either (λ m. length m ≡ suc (length l)) (p a) refl (ap suc (length-changeFirst p f l))
+
+-- a change that keeps a test keeps it of every element
+pub all-changeFirst : {A : Type 0} (q p : A → Bool) (f : A → A) (l : List A) → ((a : A) → q a ≡ true → q (f a) ≡ true) → all q l ≡ true → all q (changeFirst p f l) ≡ true
+all-changeFirst q p f [] k h = refl
+all-changeFirst q p f (a ∷ l) k h =
+    either (λ m. all q m ≡ true) (p a)
+    (both (k a (left (q a) (all q l) h)) (right (q a) (all q l) h))
+    (both (left (q a) (all q l) h) (all-changeFirst q p f l k (right (q a) (all q l) h)))
+
+-- a list without some is no longer than it was
+pub length-without : {A : Type 0} (p : A → Bool) (l : List A) → length (without p l) ≤ length l
+length-without p [] = omega arith
+length-without p (a ∷ l) = let k = length-without p l in either (λ m. length m ≤ suc (length l)) (p a) (omega arith) (omega arith)
+
+-- and what is left passes what all passed
+pub all-without : {A : Type 0} (q p : A → Bool) (l : List A) → all q l ≡ true → all q (without p l) ≡ true
+all-without q p [] h = refl
+all-without q p (a ∷ l) h =
+    let k = all-without q p l (right (q a) (all q l) h) in either (λ m. all q m ≡ true) (p a) k (both (left (q a) (all q l) h) k)
+
+-- of something that may not be there: a property, if it is
+abbrev pub IfSome : {A : Type 0} → (A → Type 0) → Option A → Type 0
+IfSome P none = Unit {0}
+IfSome P (some a) = P a
+
+-- what holds of the list with one changed, and of the list with one more where there is room, holds of what `enter` gives
+pub enter-gives : {A : Type 0} (P : List A → Type 0) (most : ℕ) (p : A → Bool) (f : A → A) (new : A) (l : List A)
+    → P (changeFirst p f l) → (length l < most → P (l ++ (new ∷ []))) → IfSome P (enter most p f new l)
+unfolding enter
+enter-gives P most p f new l c g = either (IfSome P) (any p l) c (go (ltb (length l) most) refl)
+  where
+    go : (b : Bool) → ltb (length l) most ≡ b → IfSome P (pick b (some (l ++ (new ∷ []))) none)
+    go true e = g (ltb-true (length l) most e)
+    go false e = tt
+
+-- a list that `enter` gives keeps the bound on its length
+pub enter-length : {A : Type 0} (most : ℕ) (p : A → Bool) (f : A → A) (new : A) (l : List A)
+    → leb (length l) most ≡ true → IfSome (λ m. leb (length m) most ≡ true) (enter most p f new l)
+enter-length most p f new l h =
+    enter-gives (λ m. leb (length m) most ≡ true) most p f new l
+    (rw length-changeFirst h)
+    (λ r. le-leb (length (l ++ (new ∷ []))) most (rw length-append (omega arith)))
+
+-- and a test that all pass, that the change keeps and that the new one passes
+pub enter-within : {A : Type 0} (most : ℕ) (q p : A → Bool) (f : A → A) (new : A) (l : List A)
+    → ((a : A) → q a ≡ true → q (f a) ≡ true) → q new ≡ true → tableWithin most q l ≡ true
+    → IfSome (λ m. tableWithin most q m ≡ true) (enter most p f new l)
+enter-within most q p f new l k n h =
+    let short = left (leb (length l) most) (all q l) h in
+    let good = right (leb (length l) most) (all q l) h in
+    let same : leb (length (changeFirst p f l)) most ≡ true = rw length-changeFirst short in
+    enter-gives (λ m. tableWithin most q m ≡ true) most p f new l
+    (both same (all-changeFirst q p f l k good))
+    (λ r. both (le-leb (length (l ++ (new ∷ []))) most (rw length-append (omega arith))) (all-snoc q l new good n))

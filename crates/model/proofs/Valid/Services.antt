@@ -1,0 +1,264 @@
+-- Every service's effect keeps the numbers.
+use Prim.Native.Nat.{ℕ, _≤_, _<_, max, _+_, _-_, _%_}
+use mathlib.Core.Path.{_≡_, refl}
+use mathlib.Core.Bool.{Bool, true, false, _&&_}
+use mathlib.Core.List.{List, [], _∷_}
+use mathlib.Core.Option.{Option, some, none}
+use native.Mathlib.Omega.{arith}
+use lib.ListN.{length, getD, drop}
+use lib.Dec.{leb, ltb, eqb, lit<}
+use borrow.Author.Tests.{ltb-true, leb-true, lt-ltb, le-leb}
+use Rattle.model.specs.Tests.{pick, all, changeFirst, without}
+use Rattle.model.specs.Numbers.{Moment, Span, maxTime, maxSpan, maxPeriodic, maxLevels, maxSeed}
+use Rattle.model.specs.Config.{SessionConfig, ServiceConfig, SecurityLevelConfig, within, tableWithin, findSession, findDid, findLevel, lockoutOf, maxAttemptsOf, minIntervalOf, readable, allowedIn}
+use Rattle.model.specs.Values.{Outcome, bytes, error, outcome}
+use Rattle.model.specs.Frame.{subFunction, periodicDid}
+use Rattle.model.specs.State.{Security, Failed, Lock, Subscription, momentValid, lockValid, securityValid, subscriptionValid, cleared}
+use Rattle.model.specs.Reply.{Reply, positive, negative}
+use Rattle.model.specs.Service.{Seen, Effect, Served, says, secures, schedules}
+use Rattle.model.specs.Service3E.{service3E}
+use Rattle.model.specs.Service10.{service10, sessionControl}
+use Rattle.model.specs.Service11.{service11, reset}
+use Rattle.model.specs.Service27.{service27, securityAccess, requestSeed, seedAsked, seedGiven, sendKey, judged, denied, lockedOut, locked, awaits, keyFits, isFailed, isLock, raise, forget, relock, incrementFailed, setLockout, failedCount, accepted, seeded}
+use Rattle.model.specs.Service2A.{service2A, transmission, registerAll, registered, register, cancelAll, renewed, subscription, intervalFor, rateOf, isSubscription, slow, medium, fast}
+use Rattle.model.specs.Service22.{service22}
+use Rattle.model.specs.Service2E.{service2E}
+use Rattle.model.specs.Service31.{service31}
+use Rattle.model.specs.Service28.{service28}
+use Rattle.model.specs.Service2F.{service2F}
+use Rattle.model.specs.Service34.{service34}
+use Rattle.model.specs.Service36.{service36}
+use Rattle.model.specs.Service37.{service37}
+use Rattle.model.specs.Service38.{service38}
+use Rattle.model.specs.Request.{service, guarded}
+use Rattle.model.proofs.Laws.{both, left, right, either, IfSome, enter-length, enter-within, length-changeFirst, length-without, all-without}
+use Rattle.model.proofs.Valid.Parts.{minInterval-below, lockout-below, later-valid}
+use Rattle.model.proofs.Valid.Replies.{Fits}
+use Rattle.model.proofs.Valid.Only.{OnlyReplies, Replies, only3E, only22, only2E, only31, only28, only2F, only34, only36, only37, only38}
+
+-- what a service sees keeps the numbers
+pub record Sound (v : Seen) : Type 0 where
+  pub config : within (v .config) ≡ true
+  pub lastRx : momentValid (v .session .lastRx) ≡ true
+  pub security : securityValid (v .security) ≡ true
+  pub periodic : tableWithin maxPeriodic subscriptionValid (v .periodic) ≡ true
+  pub now : v .now ≤ maxTime
+
+-- a security record by its parts
+pub record SecurityParts (k : Security) : Type 0 where
+  pub seed : leb (length (k .seed)) maxSeed ≡ true
+  pub failed : leb (length (k .failed)) maxLevels ≡ true
+  pub locks : tableWithin maxLevels lockValid (k .locks) ≡ true
+
+security-parts : (k : Security) → securityValid k ≡ true → SecurityParts k
+unfolding securityValid
+security-parts k h = record { seed = left a b both-lengths; failed = right a b both-lengths; locks = right (a && b) c h }
+  where
+    a : Bool
+    a = leb (length (k .seed)) maxSeed
+
+    b : Bool
+    b = leb (length (k .failed)) maxLevels
+
+    c : Bool
+    c = tableWithin maxLevels lockValid (k .locks)
+
+    both-lengths : (a && b) ≡ true
+    both-lengths = left (a && b) c h
+
+parts-security : {k : Security} → SecurityParts k → securityValid k ≡ true
+unfolding securityValid
+parts-security h = both (both (h .seed) (h .failed)) (h .locks)
+
+-- the served effect fits
+abbrev pub FitsServed : Served → Type 0
+FitsServed a = Fits (a .effect)
+
+-- what an act's outcome leads to fits, if it does for bytes and for an error
+on-outcome : (f : Outcome → Effect) → ((b : List ℕ) → Fits (f (bytes b))) → ((c : ℕ) → Fits (f (error c))) → (o : Outcome) → Fits (f o)
+on-outcome f p q (bytes b) = p b
+on-outcome f p q (error c) = q c
+
+module _ (v : Seen) (h : Sound v) where
+  k : SecurityParts (v .security)
+  k = security-parts (v .security) (h .security)
+
+  -- a reply alone
+  pub says-fits : {r : Reply} → Fits (says v r)
+  says-fits = record { lastRx = h .lastRx; security = h .security; periodic = h .periodic }
+
+  only-fits : (a : Served) → Replies v a → FitsServed a
+  only-fits a e = rw e says-fits
+
+  -- another security record
+  secures-fits : {s : Security} {r : Reply} → SecurityParts s → Fits (secures v s r)
+  secures-fits p = record { lastRx = h .lastRx; security = parts-security p; periodic = h .periodic }
+
+  -- the seed cleared, with the counts and locks as they stand
+  cleared-parts : SecurityParts (cleared (v .security))
+  cleared-parts = record { seed = refl; failed = k .failed; locks = k .locks }
+
+  -- 10: the session opened, the seed cleared
+  fits10 : FitsServed (service10 v)
+  unfolding service10 sessionControl
+  fits10 = either FitsServed (ltb (length (v .payload)) 1) says-fits (row (findSession (v .config) (subFunction (v .payload))))
+    where
+      row : (o : Option SessionConfig) → FitsServed (sessionControl v (subFunction (v .payload)) o)
+      row none = says-fits
+      row (some r) = record { lastRx = h .lastRx; security = parts-security cleared-parts; periodic = h .periodic }
+
+  -- 11: so too, once the reply is queued
+  fits11 : FitsServed (service11 v)
+  unfolding service11 reset
+  fits11 =
+      either FitsServed (ltb (length (v .payload)) 1) says-fits
+      (on-outcome (reset v) (λ b. record { lastRx = h .lastRx; security = parts-security cleared-parts; periodic = h .periodic }) (λ c. says-fits) (outcome (v .limit) (v .given)))
+
+  -- 27, odd: a seed that is kept is shorter than 32
+  seed-fits : (level : ℕ) (row : SecurityLevelConfig) (o : Outcome) → Fits (seedGiven v level row o)
+  unfolding seedGiven
+  seed-fits level row (error c) = says-fits
+  seed-fits level row (bytes b) = either Fits (eqb (length b) (row .seedLength)) (go (ltb (length b) maxSeed) refl) (secures-fits cleared-parts)
+    where
+      go : (t : Bool) → ltb (length b) maxSeed ≡ t → Fits (pick t (secures v (seeded (v .security) level b) (positive (level ∷ b))) (secures v (cleared (v .security)) (negative 0x14)))
+      go true e = let short = ltb-true (length b) maxSeed e in secures-fits (record { seed = le-leb (length b) maxSeed (omega arith); failed = k .failed; locks = k .locks })
+      go false e = secures-fits cleared-parts
+
+  seedAsked-fits : (level : ℕ) → FitsServed (requestSeed v level)
+  unfolding requestSeed seedAsked
+  seedAsked-fits level = either FitsServed (locked (v .security) level (v .now)) says-fits (row (findLevel (v .config) level))
+    where
+      row : (o : Option SecurityLevelConfig) → FitsServed (seedAsked v level o)
+      row none = says-fits
+      row (some r) = seed-fits level r (outcome (v .limit) (v .given))
+
+  -- 27, even, accepted: a count is set to 0, so there are as many
+  accepted-fits : (level : ℕ) → Fits (accepted v level)
+  accepted-fits level = record {
+    lastRx = h .lastRx;
+    security = parts-security (record { seed = refl; failed = rw length-changeFirst (k .failed); locks = k .locks });
+    periodic = h .periodic;
+  }
+
+  -- refused: the counts and the locks keep their bounds, and a lock ends at now plus a span
+  lockedOut-fits : (f : List Failed) → leb (length f) maxLevels ≡ true → (o : Option (List Lock)) → IfSome (λ l. tableWithin maxLevels lockValid l ≡ true) o → Fits (lockedOut v f o)
+  unfolding lockedOut
+  lockedOut-fits f n none l = secures-fits (record { seed = refl; failed = n; locks = k .locks })
+  lockedOut-fits f n (some m) l = secures-fits (record { seed = refl; failed = n; locks = l })
+
+  denied-fits : (level : ℕ) (o : Option (List Failed)) → IfSome (λ f. leb (length f) maxLevels ≡ true) o → Fits (denied v level (findLevel (v .config) level) o)
+  unfolding denied
+  denied-fits level none n = secures-fits cleared-parts
+  denied-fits level (some f) n =
+      either Fits (leb (maxAttemptsOf (findLevel (v .config) level)) (failedCount level f))
+      (lockedOut-fits f n (setLockout level until (v .security .locks)) (enter-within maxLevels lockValid (isLock level) (relock until) (record { level = level; until = until }) (v .security .locks) (λ a e. good) good (k .locks)))
+      (secures-fits (record { seed = refl; failed = n; locks = k .locks }))
+    where
+      until : Moment
+      until = v .now + lockoutOf (findLevel (v .config) level)
+
+      good : momentValid until ≡ true
+      good = later-valid (v .now) (lockoutOf (findLevel (v .config) level)) (h .now) (lockout-below (v .config) level (h .config))
+
+  sendKey-fits : (level : ℕ) → FitsServed (sendKey v level)
+  unfolding sendKey judged
+  sendKey-fits level =
+      either FitsServed (locked (v .security) level (v .now)) says-fits
+      (either FitsServed (awaits (v .security) level)
+      (either FitsServed (keyFits (length (v .payload) - 1) (findLevel (v .config) level))
+      (on-outcome (judged v level) (λ b. accepted-fits level) (λ c. denied-fits level (incrementFailed level (v .security .failed)) more) (outcome (v .limit) (v .given)))
+      says-fits)
+      says-fits)
+    where
+      more : IfSome (λ f. leb (length f) maxLevels ≡ true) (incrementFailed level (v .security .failed))
+      more = enter-length maxLevels (isFailed level) raise (record { level = level; count = 1 }) (v .security .failed) (k .failed)
+
+  fits27 : FitsServed (service27 v)
+  unfolding service27 securityAccess
+  fits27 =
+      either FitsServed (ltb (length (v .payload)) 1) says-fits
+      (either FitsServed (eqb (subFunction (v .payload)) 0) says-fits
+      (either FitsServed (eqb (subFunction (v .payload) % 2) 1) (seedAsked-fits (subFunction (v .payload))) (sendKey-fits (subFunction (v .payload) - 1))))
+
+  -- 2A: the table keeps its bound, and an entry's next moment is now plus its interval
+  schedules-fits : {t : List Subscription} {r : Reply} → tableWithin maxPeriodic subscriptionValid t ≡ true → Fits (schedules v t r)
+  schedules-fits e = record { lastRx = h .lastRx; security = h .security; periodic = e }
+
+  rate-below : (mode : ℕ) → rateOf mode < maxSpan
+  rate-below mode = either (λ n. n < maxSpan) (eqb mode 1) (lit< tt) (either (λ n. n < maxSpan) (eqb mode 2) (lit< tt) (lit< tt))
+
+  interval-below : (mode x : ℕ) → intervalFor v (rateOf mode) x < maxSpan
+  interval-below mode x = let a = rate-below mode in let b = minInterval-below (v .config) x (h .config) in omega arith
+
+  register-fits : (mode b : ℕ) (t : List Subscription) → tableWithin maxPeriodic subscriptionValid t ≡ true
+      → IfSome (λ u. tableWithin maxPeriodic subscriptionValid u ≡ true) (register (periodicDid b) (v .src) (intervalFor v (rateOf mode) (periodicDid b)) (v .now) t)
+  register-fits mode b t e =
+      enter-within maxPeriodic subscriptionValid (isSubscription (periodicDid b) (v .src)) (renewed interval (v .now)) (subscription (periodicDid b) (v .src) interval (v .now)) t
+      (λ a p. good) good e
+    where
+      interval : Span
+      interval = intervalFor v (rateOf mode) (periodicDid b)
+
+      good : (ltb interval maxSpan && momentValid (v .now + interval)) ≡ true
+      good = both (lt-ltb interval maxSpan (interval-below mode (periodicDid b))) (later-valid (v .now) interval (h .now) (interval-below mode (periodicDid b)))
+
+  registerAll-fits : (mode : ℕ) (ids : List ℕ) (t : List Subscription) → tableWithin maxPeriodic subscriptionValid t ≡ true → Fits (registerAll v mode ids t)
+  registerAll-fits mode [] t e = schedules-fits e
+  registerAll-fits mode (b ∷ ids) t e =
+      either Fits (readable (v .session .sessionType) (findDid (v .config) (periodicDid b)))
+      (on (register (periodicDid b) (v .src) (intervalFor v (rateOf mode) (periodicDid b)) (v .now) t) (register-fits mode b t e) (registerAll-fits mode ids))
+      (schedules-fits e)
+    where
+      on : (o : Option (List Subscription)) → IfSome (λ u. tableWithin maxPeriodic subscriptionValid u ≡ true) o
+          → ((u : List Subscription) → tableWithin maxPeriodic subscriptionValid u ≡ true → Fits (registerAll v mode ids u)) → Fits (registered v t o (registerAll v mode ids))
+      on none p f = schedules-fits e
+      on (some u) p f = f u p
+
+  cancelAll-within : (client : ℕ) (ids : List ℕ) (t : List Subscription) → tableWithin maxPeriodic subscriptionValid t ≡ true → tableWithin maxPeriodic subscriptionValid (cancelAll client ids t) ≡ true
+  cancelAll-within client [] t e = e
+  cancelAll-within client (b ∷ ids) t e = cancelAll-within client ids (without mine t) (both (le-leb (length (without mine t)) maxPeriodic fewer) (all-without subscriptionValid mine t (right (leb (length t) maxPeriodic) (all subscriptionValid t) e)))
+    where
+      mine : Subscription → Bool
+      mine = isSubscription (periodicDid b) client
+
+      fewer : length (without mine t) ≤ maxPeriodic
+      fewer = let a = length-without mine t in let b = leb-true (length t) maxPeriodic (left (leb (length t) maxPeriodic) (all subscriptionValid t) e) in omega arith
+
+  fits2A : FitsServed (service2A v)
+  unfolding service2A transmission
+  fits2A =
+      either FitsServed (ltb (length (v .payload)) 1) says-fits
+      (either FitsServed (eqb mode 4) (schedules-fits (cancelAll-within (v .src) ids (v .periodic) (h .periodic)))
+      (either FitsServed (leb 1 mode && leb mode 3) (registerAll-fits mode ids (v .periodic) (h .periodic)) says-fits))
+    where
+      mode : ℕ
+      mode = getD (v .payload) 0 0
+
+      ids : List ℕ
+      ids = drop 1 (v .payload)
+
+  -- any of the fourteen, or none of them
+  service-fits : (sid : ℕ) → FitsServed (service sid v)
+  unfolding service
+  service-fits sid =
+      either FitsServed (eqb sid 0x3E) (only-fits (service3E v) (only3E v))
+      (either FitsServed (eqb sid 0x10) fits10
+      (either FitsServed (eqb sid 0x11) fits11
+      (either FitsServed (eqb sid 0x27) fits27
+      (either FitsServed (eqb sid 0x22) (only-fits (service22 v) (only22 v))
+      (either FitsServed (eqb sid 0x2E) (only-fits (service2E v) (only2E v))
+      (either FitsServed (eqb sid 0x2A) fits2A
+      (either FitsServed (eqb sid 0x31) (only-fits (service31 v) (only31 v))
+      (either FitsServed (eqb sid 0x28) (only-fits (service28 v) (only28 v))
+      (either FitsServed (eqb sid 0x2F) (only-fits (service2F v) (only2F v))
+      (either FitsServed (eqb sid 0x34) (only-fits (service34 v) (only34 v))
+      (either FitsServed (eqb sid 0x36) (only-fits (service36 v) (only36 v))
+      (either FitsServed (eqb sid 0x37) (only-fits (service37 v) (only37 v))
+      (either FitsServed (eqb sid 0x38) (only-fits (service38 v) (only38 v))
+      says-fits)))))))))))))
+
+  -- what a frame's service answers, refusals included
+  pub guarded-fits : (sid : ℕ) (row : Option ServiceConfig) → FitsServed (guarded sid v row)
+  unfolding guarded
+  guarded-fits sid none = says-fits
+  guarded-fits sid (some r) = either FitsServed (allowedIn (v .session .sessionType) r) (service-fits sid) says-fits
