@@ -3,7 +3,7 @@ use Prim.Native.Nat.{ℕ, suc, _≤_, _<_}
 use mathlib.Core.Path.{_≡_, refl}
 use mathlib.Core.Bool.{Bool, true, false}
 use mathlib.Core.List.{List, [], _∷_, _++_}
-use mathlib.Core.Option.{Option, some, none}
+use mathlib.Core.Option.{Option}
 use native.Mathlib.Omega.{arith}
 use lib.ListN.{length, length-append}
 use lib.Dec.{leb, ltb, eqb}
@@ -11,11 +11,11 @@ use borrow.Author.Tests.{ltb-true, leb-true, le-leb}
 use Rattle.model.specs.Tests.{pick, all}
 use Rattle.model.specs.Numbers.{Moment, maxOutbox, maxTime, maxPeriodic}
 use Rattle.model.specs.Config.{findSession, p2ExtOf, tableWithin}
-use Rattle.model.specs.Frame.{Frame, positiveFrame, negativeFrame, response}
-use Rattle.model.specs.State.{PendingRequest, State, Step, step, momentValid, securityValid, subscriptionValid, pendingValid, frameValid, withQueue, withPending, withRecords}
+use Rattle.model.specs.Frame.{Frame, positiveFrame, negativeFrame}
+use Rattle.model.specs.State.{PendingRequest, State, Step, step, momentValid, securityValid, subscriptionValid, pendingValid, frameValid, withQueue, withPending}
 use Rattle.model.specs.Reply.{Reply, silent, positive, negative, always, pends, queued, withheld, refused, confirmed, begun, replied}
 use Rattle.model.specs.Service.{Effect, changed, changedAfter, apply}
-use Rattle.model.proofs.Laws.{both, left, right, either, all-snoc}
+use Rattle.model.proofs.Laws.{both, right, either, all-snoc}
 use Rattle.model.proofs.Valid.Parts.{Valid, p2Ext-below, later-valid}
 
 -- the state that a step leaves is valid
@@ -63,13 +63,13 @@ changed-valid h f = record { config = h .config; lastRx = f .lastRx; security = 
 
 module _ (limit : ℕ) (room : 3 ≤ limit) where
   -- a negative frame has three bytes, and the limit has room for it
-  pub negative-valid : (s : State) (to sid code : ℕ) → Valid limit s → ValidStep limit (queued s to (negativeFrame sid code))
-  negative-valid s to sid code h = queued-valid limit s to (negativeFrame sid code) h (omega arith) (omega arith)
+  pub negative-valid : {s : State} (to sid code : ℕ) → Valid limit s → ValidStep limit (queued s to (negativeFrame sid code))
+  negative-valid {s} to sid code h = queued-valid limit s to (negativeFrame sid code) h (omega arith) (omega arith)
 
   -- a negative frame that may be withheld
   pub refused-valid : (s : State) (to sid code : ℕ) → Valid limit s → ValidStep limit (refused s to sid code)
   unfolding refused
-  refused-valid s to sid code h = either (ValidStep limit) (withheld (s .mode) code) h (negative-valid s to sid code h)
+  refused-valid s to sid code h = either (ValidStep limit) (withheld (s .mode) code) h (negative-valid to sid code h)
 
   -- a positive frame within the limit, or 0x14
   pub confirmed-valid : (s : State) (to sid : ℕ) (p : List ℕ) → Valid limit s → ValidStep limit (confirmed limit s to sid p)
@@ -84,7 +84,7 @@ module _ (limit : ℕ) (room : 3 ≤ limit) where
   pub begun-valid : (s : State) (to sid : ℕ) (now : Moment) → now ≤ maxTime → Valid limit s → ValidStep limit (begun s to sid now)
   unfolding begun
   begun-valid s to sid now t h =
-      negative-valid _ to sid 0x78 (pending-valid h (later-valid now (p2ExtOf (findSession (s .config) (s .session .sessionType))) t (p2Ext-below (s .config) (s .session .sessionType) (h .config))))
+      negative-valid to sid 0x78 (pending-valid h (later-valid now (p2ExtOf (findSession (s .config) (s .session .sessionType))) t (p2Ext-below (s .config) (s .session .sessionType) (h .config))))
 
   -- any reply
   pub replied-valid : (s : State) (to sid : ℕ) (now : Moment) (r : Reply) → now ≤ maxTime → Valid limit s → ValidStep limit (replied limit s to sid now r)
@@ -92,7 +92,7 @@ module _ (limit : ℕ) (room : 3 ≤ limit) where
   replied-valid s to sid now silent t h = h
   replied-valid s to sid now (positive p) t h = confirmed-valid s to sid p h
   replied-valid s to sid now (negative code) t h = refused-valid s to sid code h
-  replied-valid s to sid now (always code) t h = negative-valid s to sid code h
+  replied-valid s to sid now (always code) t h = negative-valid to sid code h
   replied-valid s to sid now pends t h = begun-valid s to sid now t h
 
   -- an effect carried out, its change before the reply or after it

@@ -1,5 +1,5 @@
 -- Every service's effect keeps the numbers.
-use Prim.Native.Nat.{ℕ, _≤_, _<_, max, _+_, _-_, _%_}
+use Prim.Native.Nat.{ℕ, _≤_, _<_, _+_, _-_, _%_}
 use mathlib.Core.Path.{_≡_, refl}
 use mathlib.Core.Bool.{Bool, true, false, _&&_}
 use mathlib.Core.List.{List, [], _∷_}
@@ -8,9 +8,9 @@ use native.Mathlib.Omega.{arith}
 use lib.ListN.{length, getD, drop}
 use lib.Dec.{leb, ltb, eqb, lit<}
 use borrow.Author.Tests.{ltb-true, leb-true, lt-ltb, le-leb}
-use Rattle.model.specs.Tests.{pick, all, changeFirst, without}
+use Rattle.model.specs.Tests.{pick, all, without}
 use Rattle.model.specs.Numbers.{Moment, Span, maxTime, maxSpan, maxPeriodic, maxLevels, maxSeed}
-use Rattle.model.specs.Config.{SessionConfig, ServiceConfig, SecurityLevelConfig, within, tableWithin, findSession, findDid, findLevel, lockoutOf, maxAttemptsOf, minIntervalOf, readable, allowedIn}
+use Rattle.model.specs.Config.{SessionConfig, ServiceConfig, SecurityLevelConfig, within, tableWithin, findSession, findDid, findLevel, lockoutOf, maxAttemptsOf, readable, allowedIn}
 use Rattle.model.specs.Values.{Outcome, bytes, error, outcome}
 use Rattle.model.specs.Frame.{subFunction, periodicDid}
 use Rattle.model.specs.State.{Security, Failed, Lock, Subscription, momentValid, lockValid, securityValid, subscriptionValid, cleared}
@@ -19,8 +19,8 @@ use Rattle.model.specs.Service.{Seen, Effect, Served, says, secures, sch
 use Rattle.model.specs.Service3E.{service3E}
 use Rattle.model.specs.Service10.{service10, sessionControl}
 use Rattle.model.specs.Service11.{service11, reset}
-use Rattle.model.specs.Service27.{service27, securityAccess, requestSeed, seedAsked, seedGiven, sendKey, judged, denied, lockedOut, locked, awaits, keyFits, isFailed, isLock, raise, forget, relock, incrementFailed, setLockout, failedCount, accepted, seeded}
-use Rattle.model.specs.Service2A.{service2A, transmission, registerAll, registered, register, cancelAll, renewed, subscription, intervalFor, rateOf, isSubscription, slow, medium, fast}
+use Rattle.model.specs.Service27.{service27, securityAccess, requestSeed, seedAsked, seedGiven, sendKey, judged, denied, lockedOut, locked, awaits, keyFits, isFailed, isLock, raise, relock, incrementFailed, setLockout, failedCount, accepted, seeded}
+use Rattle.model.specs.Service2A.{service2A, transmission, registerAll, registered, register, cancelAll, renewed, subscription, intervalFor, rateOf, isSubscription}
 use Rattle.model.specs.Service22.{service22}
 use Rattle.model.specs.Service2E.{service2E}
 use Rattle.model.specs.Service31.{service31}
@@ -34,7 +34,7 @@ use Rattle.model.specs.Request.{service, guarded}
 use Rattle.model.proofs.Laws.{both, left, right, either, IfSome, enter-length, enter-within, length-changeFirst, length-without, all-without}
 use Rattle.model.proofs.Valid.Parts.{minInterval-below, lockout-below, later-valid}
 use Rattle.model.proofs.Valid.Replies.{Fits}
-use Rattle.model.proofs.Valid.Only.{OnlyReplies, Replies, only3E, only22, only2E, only31, only28, only2F, only34, only36, only37, only38}
+use Rattle.model.proofs.Valid.Only.{Replies, only3E, only22, only2E, only31, only28, only2F, only34, only36, only37, only38}
 
 -- what a service sees keeps the numbers
 pub record Sound (v : Seen) : Type 0 where
@@ -70,6 +70,13 @@ parts-security : {k : Security} → SecurityParts k → securityValid k ≡ true
 unfolding securityValid
 parts-security h = both (both (h .seed) (h .failed)) (h .locks)
 
+-- the seed cleared, with the counts and locks as they stand
+pub cleared-parts : (k : Security) → securityValid k ≡ true → SecurityParts (cleared k)
+cleared-parts k h = let p = security-parts k h in record { seed = refl; failed = p .failed; locks = p .locks }
+
+pub cleared-valid : (k : Security) → securityValid k ≡ true → securityValid (cleared k) ≡ true
+cleared-valid k h = parts-security (cleared-parts k h)
+
 -- the served effect fits
 abbrev pub FitsServed : Served → Type 0
 FitsServed a = Fits (a .effect)
@@ -94,10 +101,6 @@ module _ (v : Seen) (h : Sound v) where
   secures-fits : {s : Security} {r : Reply} → SecurityParts s → Fits (secures v s r)
   secures-fits p = record { lastRx = h .lastRx; security = parts-security p; periodic = h .periodic }
 
-  -- the seed cleared, with the counts and locks as they stand
-  cleared-parts : SecurityParts (cleared (v .security))
-  cleared-parts = record { seed = refl; failed = k .failed; locks = k .locks }
-
   -- 10: the session opened, the seed cleared
   fits10 : FitsServed (service10 v)
   unfolding service10 sessionControl
@@ -105,24 +108,24 @@ module _ (v : Seen) (h : Sound v) where
     where
       row : (o : Option SessionConfig) → FitsServed (sessionControl v (subFunction (v .payload)) o)
       row none = says-fits
-      row (some r) = record { lastRx = h .lastRx; security = parts-security cleared-parts; periodic = h .periodic }
+      row (some r) = record { lastRx = h .lastRx; security = cleared-valid (v .security) (h .security); periodic = h .periodic }
 
   -- 11: so too, once the reply is queued
   fits11 : FitsServed (service11 v)
   unfolding service11 reset
   fits11 =
       either FitsServed (ltb (length (v .payload)) 1) says-fits
-      (on-outcome (reset v) (λ b. record { lastRx = h .lastRx; security = parts-security cleared-parts; periodic = h .periodic }) (λ c. says-fits) (outcome (v .limit) (v .given)))
+      (on-outcome (reset v) (λ b. record { lastRx = h .lastRx; security = cleared-valid (v .security) (h .security); periodic = h .periodic }) (λ c. says-fits) (outcome (v .limit) (v .given)))
 
   -- 27, odd: a seed that is kept is shorter than 32
   seed-fits : (level : ℕ) (row : SecurityLevelConfig) (o : Outcome) → Fits (seedGiven v level row o)
   unfolding seedGiven
   seed-fits level row (error c) = says-fits
-  seed-fits level row (bytes b) = either Fits (eqb (length b) (row .seedLength)) (go (ltb (length b) maxSeed) refl) (secures-fits cleared-parts)
+  seed-fits level row (bytes b) = either Fits (eqb (length b) (row .seedLength)) (go (ltb (length b) maxSeed) refl) (secures-fits (cleared-parts (v .security) (h .security)))
     where
       go : (t : Bool) → ltb (length b) maxSeed ≡ t → Fits (pick t (secures v (seeded (v .security) level b) (positive (level ∷ b))) (secures v (cleared (v .security)) (negative 0x14)))
       go true e = let short = ltb-true (length b) maxSeed e in secures-fits (record { seed = le-leb (length b) maxSeed (omega arith); failed = k .failed; locks = k .locks })
-      go false e = secures-fits cleared-parts
+      go false e = secures-fits (cleared-parts (v .security) (h .security))
 
   seedAsked-fits : (level : ℕ) → FitsServed (requestSeed v level)
   unfolding requestSeed seedAsked
@@ -148,7 +151,7 @@ module _ (v : Seen) (h : Sound v) where
 
   denied-fits : (level : ℕ) (o : Option (List Failed)) → IfSome (λ f. leb (length f) maxLevels ≡ true) o → Fits (denied v level (findLevel (v .config) level) o)
   unfolding denied
-  denied-fits level none n = secures-fits cleared-parts
+  denied-fits level none n = secures-fits (cleared-parts (v .security) (h .security))
   denied-fits level (some f) n =
       either Fits (leb (maxAttemptsOf (findLevel (v .config) level)) (failedCount level f))
       (lockedOut-fits f n (setLockout level until (v .security .locks)) (enter-within maxLevels lockValid (isLock level) (relock until) (record { level = level; until = until }) (v .security .locks) (λ a e. good) good (k .locks)))
