@@ -45,6 +45,11 @@ all-snoc q (b ∷ l) a h e = both (left (q b) (all q l) h) (all-snoc q l a (righ
 
 -- for Valid and Leaves
 
+-- one of two by the same test on both sides, where the two pairs are related
+pub alike : {A B : Type 0} (R : A → B → Type 0) (b : Bool) {x y : A} {z w : B} → R x z → R y w → R (pick b x y) (pick b z w)
+alike R true p q = p
+alike R false p q = q
+
 -- a lookup gives nothing, or an element that passes the test that all pass: what holds of both holds of what it gives
 pub first-or : {A : Type 0} (P : Option A → Type 0) (p q : A → Bool) (l : List A) → all q l ≡ true → P none → ((a : A) → q a ≡ true → P (some a)) → P (first p l)
 first-or P p q [] h n f = n
