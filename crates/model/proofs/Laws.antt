@@ -4,11 +4,12 @@ use mathlib.Core.Path.{_≡_, refl, ap}
 use mathlib.Core.Bool.{Bool, true, false, _&&_, false≢true}
 use mathlib.Core.List.{List, [], _∷_, _++_}
 use mathlib.Core.Option.{Option, some, none}
+use mathlib.Core.Logic.{_⊎_, inl, inr}
 use native.Mathlib.Omega.{arith}
 use lib.ListN.{length, length-append}
-use lib.Dec.{leb, ltb}
-use borrow.Author.Tests.{ltb-true, le-leb}
-use Rattle.model.specs.Tests.{pick, all, any, first, changeFirst, without, enter}
+use lib.Dec.{leb, ltb, eqb}
+use borrow.Author.Tests.{ltb-true, le-leb, eqb-true}
+use Rattle.model.specs.Tests.{pick, memb, all, any, first, changeFirst, without, enter}
 use Rattle.model.specs.Config.{tableWithin}
 
 -- both tests pass
@@ -113,3 +114,26 @@ enter-within most q p f new l k n h =
     enter-gives (λ m. tableWithin most q m ≡ true) most p f new l
     (both same (all-changeFirst q p f l k good))
     (λ r. both (le-leb (length (l ++ (new ∷ []))) most (rw length-append (omega arith))) (all-snoc q l new good n))
+
+-- a property of each of some numbers
+abbrev pub Each : (ℕ → Type 0) → List ℕ → Type 0
+Each P [] = Unit {0}
+Each P (x ∷ xs) = P x × Each P xs
+
+-- what holds of each number of a list holds of one that stands in it
+pub memb-each : (P : ℕ → Type 0) (n : ℕ) (ns : List ℕ) → Each P ns → memb n ns ≡ true → P n
+memb-each P n [] h e = absurd (false≢true e)
+memb-each P n (x ∷ ns) h e = go (eqb x n) refl (memb-each P n ns (h .1)) e
+  where
+    go : (b : Bool) → eqb x n ≡ b → (memb n ns ≡ true → P n) → pick b true (memb n ns) ≡ true → P n
+    go true q k f = rw (← eqb-true x n q) (h .0)
+    go false q k f = k f
+
+-- a number that does not stand in a list is none that does
+pub memb-never : (k n : ℕ) (ns : List ℕ) → memb k ns ≡ false → memb n ns ≡ true → n ≡ k → ⊥
+memb-never k n ns out h e = let z : false ≡ true = cc in false≢true z
+
+-- a test passes or fails
+pub true-or-false : (b : Bool) → (b ≡ true) ⊎ (b ≡ false)
+true-or-false true = inl refl
+true-or-false false = inr refl

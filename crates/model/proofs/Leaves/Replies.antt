@@ -1,0 +1,137 @@
+-- What a reply leaves, and what result 3 means: a frame is to be queued and 16 are held.
+use Prim.Native.Nat.{ℕ, suc, _+_, _≤_}
+use mathlib.Core.Path.{_≡_, refl}
+use mathlib.Core.Bool.{Bool, true, false}
+use mathlib.Core.Logic.{_↔_}
+use mathlib.Core.List.{List, [], _∷_, _++_}
+use mathlib.Core.Option.{Option, some}
+use native.Mathlib.Omega.{arith}
+use lib.ListN.{length}
+use lib.Dec.{leb, ltb, eqb}
+use borrow.Author.Tests.{ltb-false, le-ltb}
+use Rattle.model.specs.Tests.{pick, memb}
+use Rattle.model.specs.Numbers.{Moment, maxOutbox}
+use Rattle.model.specs.Config.{findSession, p2ExtOf}
+use Rattle.model.specs.State.{Session, Security, Subscription, PendingRequest, State, Step, step, withQueue, withPending}
+use Rattle.model.specs.Reply.{Reply, silent, positive, negative, always, pends, queued, withheld, refused, confirmed, begun, replied}
+use Rattle.model.specs.Frame.{positiveFrame, negativeFrame}
+use Rattle.model.specs.Service.{Effect, changed, changedAfter, apply}
+use Rattle.model.proofs.Laws.{either, Each, memb-each}
+
+-- where 16 frames are held, a frame to be queued meets 3 and leaves the state that it was given
+pub queued-full : (s : State) (to : ℕ) (b : List ℕ) → maxOutbox ≤ length (s .queue) → queued s to b ≡ step 3 s
+unfolding queued
+queued-full s to b h = rw (le-ltb (length (s .queue)) maxOutbox h)
+
+-- and it meets 3 only then
+pub queued-3 : (s : State) (to : ℕ) (b : List ℕ) → (queued s to b .result ≡ 3) ↔ (maxOutbox ≤ length (s .queue))
+unfolding queued
+queued-3 s to b = (go (ltb (length (s .queue)) maxOutbox) refl, λ h. rw (le-ltb (length (s .queue)) maxOutbox h))
+  where
+    go : (t : Bool) → ltb (length (s .queue)) maxOutbox ≡ t → pick t (step 0 (withQueue s (s .queue ++ (record { dst = to; bytes = b } ∷ [])))) (step 3 s) .result ≡ 3 → maxOutbox ≤ length (s .queue)
+    go true e z = absurd (omega arith)
+    go false e z = ltb-false (length (s .queue)) maxOutbox e
+
+-- 3 leaves the queue as it was, and 16 frames were held
+abbrev pub Full : State → Step → Type 0
+Full s p = p .result ≡ 3 → (p .state .queue ≡ s .queue) × (maxOutbox ≤ length (s .queue))
+
+-- what a reply gives and leaves: 0 or 3; the session, security and subscriptions as they were; and the queue too where it is 3
+pub record Answered (s : State) (p : Step) : Type 0 where
+  pub result : memb (p .result) (0 ∷ 3 ∷ []) ≡ true
+  pub full : Full s p
+  pub session : p .state .session ≡ s .session
+  pub security : p .state .security ≡ s .security
+  pub periodic : p .state .periodic ≡ s .periodic
+
+-- done, and nothing changed
+pub done-answered : (s : State) → Answered s (step 0 s)
+done-answered s = record { result = refl; full = λ z. absurd (omega arith); session = refl; security = refl; periodic = refl }
+
+pub queued-answered : (s : State) (to : ℕ) (b : List ℕ) → Answered s (queued s to b)
+unfolding queued
+queued-answered s to b = go (ltb (length (s .queue)) maxOutbox) refl
+  where
+    go : (t : Bool) → ltb (length (s .queue)) maxOutbox ≡ t → Answered s (pick t (step 0 (withQueue s (s .queue ++ (record { dst = to; bytes = b } ∷ [])))) (step 3 s))
+    go true e = record { result = refl; full = λ z. absurd (omega arith); session = refl; security = refl; periodic = refl }
+    go false e = record { result = refl; full = λ z. (refl, ltb-false (length (s .queue)) maxOutbox e); session = refl; security = refl; periodic = refl }
+
+pub refused-answered : (s : State) (to sid code : ℕ) → Answered s (refused s to sid code)
+unfolding refused
+refused-answered s to sid code = either (Answered s) (withheld (s .mode) code) (done-answered s) (queued-answered s to (negativeFrame sid code))
+
+pub confirmed-answered : (limit : ℕ) (s : State) (to sid : ℕ) (p : List ℕ) → Answered s (confirmed limit s to sid p)
+unfolding confirmed
+confirmed-answered limit s to sid p = either (Answered s) (leb (suc (length p)) limit) (queued-answered s to (positiveFrame sid p)) (refused-answered s to sid 0x14)
+
+-- another pending request makes no difference to that
+pub pending-answered : (s : State) (q : Option PendingRequest) (p : Step) → Answered (withPending s q) p → Answered s p
+pending-answered s q p a = record { result = a .result; full = a .full; session = a .session; security = a .security; periodic = a .periodic }
+
+pub begun-answered : (s : State) (to sid : ℕ) (now : Moment) → Answered s (begun s to sid now)
+unfolding begun
+begun-answered s to sid now = pending-answered s p (queued (withPending s p) to (negativeFrame sid 0x78)) (queued-answered (withPending s p) to (negativeFrame sid 0x78))
+  where
+    p : Option PendingRequest
+    p = some (record { dst = to; sid = sid; deadline = now + p2ExtOf (findSession (s .config) (s .session .sessionType)) })
+
+pub replied-answered : (limit : ℕ) (s : State) (to sid : ℕ) (now : Moment) (r : Reply) → Answered s (replied limit s to sid now r)
+unfolding replied
+replied-answered limit s to sid now silent = done-answered s
+replied-answered limit s to sid now (positive p) = confirmed-answered limit s to sid p
+replied-answered limit s to sid now (negative code) = refused-answered s to sid code
+replied-answered limit s to sid now (always code) = queued-answered s to (negativeFrame sid code)
+replied-answered limit s to sid now pends = begun-answered s to sid now
+
+-- a step gives one of some numbers, and 3 leaves the queue as it was, with 16 frames held
+pub record Gives (ns : List ℕ) (s : State) (p : Step) : Type 0 where
+  pub result : memb (p .result) ns ≡ true
+  pub full : Full s p
+
+-- a reply gives 0 or 3
+pub answered-gives : {s : State} {p : Step} → Answered s p → Gives (0 ∷ 3 ∷ []) s p
+answered-gives a = record { result = a .result; full = a .full }
+
+-- and so one of more numbers
+pub wider : (ns ms : List ℕ) {s : State} {p : Step} → Each (λ n. memb n ms ≡ true) ns → Gives ns s p → Gives ms s p
+wider ns ms {p = p} e a = record { result = memb-each (λ n. memb n ms ≡ true) (p .result) ns e (a .result); full = a .full }
+
+-- a change that waits for the reply
+after-gives : (s : State) (e : Effect) (p : Step) → Answered s p → Gives (0 ∷ 3 ∷ []) s (changedAfter e p)
+unfolding changedAfter
+after-gives s e p a = either (Gives (0 ∷ 3 ∷ []) s) (eqb (p .result) 0) (record { result = refl; full = λ z. absurd (omega arith) }) (answered-gives a)
+
+-- an effect carried out gives 0 or 3, and 3 leaves the queue as it was
+pub apply-gives : (limit : ℕ) (s : State) (to sid : ℕ) (now : Moment) (e : Effect) → Gives (0 ∷ 3 ∷ []) s (apply limit s to sid now e)
+unfolding apply
+apply-gives limit s to sid now e =
+    either (Gives (0 ∷ 3 ∷ []) s) (e .waits) (after-gives s e (replied limit s to sid now (e .reply)) (replied-answered limit s to sid now (e .reply)))
+    (record { result = b .result; full = b .full })
+  where
+    b : Answered (changed s e) (replied limit (changed s e) to sid now (e .reply))
+    b = replied-answered limit (changed s e) to sid now (e .reply)
+
+-- the session, security and subscriptions of a state
+pub record Holds (s : State) (session : Session) (security : Security) (periodic : List Subscription) : Type 0 where
+  pub sessionIs : s .session ≡ session
+  pub securityIs : s .security ≡ security
+  pub periodicIs : s .periodic ≡ periodic
+
+-- with `waits`, a reply that meets 3 leaves the session, security and subscriptions as they stood
+pub apply-waits : (limit : ℕ) (s : State) (to sid : ℕ) (now : Moment) (e : Effect) → e .waits ≡ true → apply limit s to sid now e .result ≡ 3
+    → Holds (apply limit s to sid now e .state) (s .session) (s .security) (s .periodic)
+unfolding apply changedAfter
+apply-waits limit s to sid now e w = rw w (go (replied limit s to sid now (e .reply)) (replied-answered limit s to sid now (e .reply)))
+  where
+    go : (p : Step) → Answered s p → changedAfter e p .result ≡ 3 → Holds (changedAfter e p .state) (s .session) (s .security) (s .periodic)
+    go p a = either (λ (q : Step). q .result ≡ 3 → Holds (q .state) (s .session) (s .security) (s .periodic)) (eqb (p .result) 0) (λ z. absurd (omega arith))
+        (λ z. record { sessionIs = a .session; securityIs = a .security; periodicIs = a .periodic })
+
+-- without, the change stays, whatever the reply meets
+pub apply-stays : (limit : ℕ) (s : State) (to sid : ℕ) (now : Moment) (e : Effect) → e .waits ≡ false
+    → Holds (apply limit s to sid now e .state) (e .session) (e .security) (e .periodic)
+unfolding apply
+apply-stays limit s to sid now e w = rw w (record { sessionIs = a .session; securityIs = a .security; periodicIs = a .periodic })
+  where
+    a : Answered (changed s e) (replied limit (changed s e) to sid now (e .reply))
+    a = replied-answered limit (changed s e) to sid now (e .reply)
