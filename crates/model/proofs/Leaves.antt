@@ -1,9 +1,10 @@
 -- What each result number means and leaves.
 pub mod Replies
 pub mod Results
+pub mod Periodic
 use Prim.Native.Nat.{ℕ, suc, _≤_, _<_}
 use mathlib.Core.Path.{_≡_, refl, ap, sym, _∙_}
-use mathlib.Core.Bool.{Bool, true, false, _&&_}
+use mathlib.Core.Bool.{Bool, true, false, _&&_, true≢false, and-false}
 use mathlib.Core.Logic.{_↔_, _⊎_, inl, inr}
 use mathlib.Core.List.{List, [], _∷_}
 use mathlib.Core.Option.{Option, some, none}
@@ -83,3 +84,104 @@ exactly-6 limit s c w = (go (ends limit s c), λ h. rw (call-6 limit s c w h) re
     go (invalid v e) z = let y : _≡_ {A = ℕ} 10 6 = rw e at z in absurd (omega arith)
     go (late v h e) z = h
     go (passes v h m) z = absurd (memb-never 6 (call limit s c .shown .result) (passing c) (numbers c .3) m z)
+
+-- a frame's length that does not fit is 0 or above 4095
+abbrev pub Misfit : List ℕ → Type 0
+Misfit f = (length f ≡ 0) ⊎ (maxRequest < length f)
+
+misfit : (f : List ℕ) → (lengthFits f ≡ false) ↔ Misfit f
+misfit f = (there (leb 1 (length f)) (leb (length f) maxRequest) refl refl, back)
+  where
+    there : (a b : Bool) → leb 1 (length f) ≡ a → leb (length f) maxRequest ≡ b → (a && b) ≡ false → Misfit f
+    there true true p q e = absurd (true≢false e)
+    there true false p q e = inr (leb-false (length f) maxRequest q)
+    there false b p q e = let low = leb-false 1 (length f) p in inl (omega arith)
+
+    back : Misfit f → lengthFits f ≡ false
+    back (inl e) = rw e refl
+    back (inr h) = rw (lt-leb (length f) maxRequest h) (and-false (leb 1 (length f)))
+
+-- the other numbers, of a valid state and a time up to 2^48
+module _ (limit : ℕ) (s : State) (v : valid limit s ≡ true) where
+  -- 1 is given by complete and by fail exactly when nothing is pending, and leaves all unchanged
+  pub complete-1 : (now : Moment) (payload : List ℕ) → now ≤ maxTime → (complete limit s now payload .result ≡ 1) ↔ (s .pending ≡ none)
+  unfolding complete completed
+  complete-1 now payload h = rw (v, le-leb now maxTime h) (go (s .pending), λ e. rw e refl)
+    where
+      go : (o : Option PendingRequest) → completed limit s payload o .result ≡ 1 → o ≡ none
+      go none z = refl
+      go (some p) z = absurd (memb-never 1 (completed limit s payload (some p) .result) (0 ∷ 3 ∷ []) refl (confirmed-answered limit (withPending s none) (p .dst) (p .sid) payload .result) z)
+
+  pub complete-1-leaves : (now : Moment) (payload : List ℕ) → now ≤ maxTime → s .pending ≡ none → complete limit s now payload ≡ step 1 s
+  unfolding complete completed
+  complete-1-leaves now payload h e = rw (v, le-leb now maxTime h, e) refl
+
+  pub fail-1 : (now : Moment) (code : ℕ) → now ≤ maxTime → (fail limit s now code .result ≡ 1) ↔ (s .pending ≡ none)
+  unfolding fail failed
+  fail-1 now code h = rw (v, le-leb now maxTime h) (go (s .pending), λ e. rw e refl)
+    where
+      go : (o : Option PendingRequest) → failed s code o .result ≡ 1 → o ≡ none
+      go none z = refl
+      go (some p) z = absurd (memb-never 1 (failed s code (some p) .result) (0 ∷ 3 ∷ []) refl (queued-answered (withPending s none) (p .dst) (negativeFrame (p .sid) code) .result) z)
+
+  pub fail-1-leaves : (now : Moment) (code : ℕ) → now ≤ maxTime → s .pending ≡ none → fail limit s now code ≡ step 1 s
+  unfolding fail failed
+  fail-1-leaves now code h e = rw (v, le-leb now maxTime h, e) refl
+
+  -- 2 is given, of an addressed frame with nothing pending, exactly when its length is 0 or above 4095,
+  -- and leaves the address mode and last_rx set and all else unchanged
+  module _ (r : Request) (m : AddressMode) (h : r .inbound .time ≤ maxTime) (a : addressed (s .config) (r .inbound .dst) ≡ some m) (p : s .pending ≡ none) where
+    now-heard : request limit s r ≡ heard limit (received s m (r .inbound .time)) r none
+    unfolding request routed
+    now-heard = rw (v, le-leb (r .inbound .time) maxTime h, a, p) refl
+
+    pub request-2 : (request limit s r .step .result ≡ 2) ↔ ((length (r .inbound .frame) ≡ 0) ⊎ (maxRequest < length (r .inbound .frame)))
+    unfolding heard
+    request-2 = rw now-heard (λ z. misfit (r .inbound .frame) .0 (go (lengthFits (r .inbound .frame)) z), λ k. rw (misfit (r .inbound .frame) .1 k) refl)
+      where
+        t : State
+        t = received s m (r .inbound .time)
+
+        go : (b : Bool) → pick b (carried limit t (r .inbound) (served limit t r)) (plain (step 2 t)) .step .result ≡ 2 → b ≡ false
+        go true z =
+            absurd (memb-never 2 (carried limit t (r .inbound) (served limit t r) .step .result) (0 ∷ 3 ∷ []) refl
+            (apply-gives limit t (r .inbound .src) (sidOf (r .inbound .frame)) (r .inbound .time) (served limit t r .effect) .result) z)
+        go false z = refl
+
+    pub request-2-leaves : (length (r .inbound .frame) ≡ 0) ⊎ (maxRequest < length (r .inbound .frame)) → request limit s r ≡ plain (step 2 (received s m (r .inbound .time)))
+    unfolding heard
+    request-2-leaves k = rw (now-heard, misfit (r .inbound .frame) .1 k) refl
+
+  -- 5 is given by drain exactly when the records exceed the buffer, and leaves state and buffer unchanged, with no frame drained
+  pub drain-5 : (buffer : List ℕ) → (drain limit s buffer .step .result ≡ 5) ↔ (length buffer < length (records (s .queue)))
+  unfolding drain
+  drain-5 buffer = rw v (go (leb (length (records (s .queue))) (length buffer)) refl, λ h. rw (lt-leb (length (records (s .queue))) (length buffer) h) refl)
+    where
+      go : (t : Bool) → leb (length (records (s .queue))) (length buffer) ≡ t → pick t (written s buffer) (unmoved 5 s buffer) .step .result ≡ 5 → length buffer < length (records (s .queue))
+      go true e z = absurd (omega arith)
+      go false e z = leb-false (length (records (s .queue))) (length buffer) e
+
+  pub drain-5-leaves : (buffer : List ℕ) → length buffer < length (records (s .queue)) → drain limit s buffer ≡ unmoved 5 s buffer
+  unfolding drain
+  drain-5-leaves buffer h = rw (v, lt-leb (length (records (s .queue))) (length buffer) h) refl
+
+-- 3, of a request: the queue is the old queue, and 16 frames were held
+pub request-3 : (limit : ℕ) (s : State) (r : Request) → request limit s r .step .result ≡ 3 → (request limit s r .step .state .queue ≡ s .queue) × (maxOutbox ≤ length (s .queue))
+unfolding request
+request-3 limit s r =
+    either (λ (a : Answer). Full s (a .step)) (valid limit s)
+    (either (λ (a : Answer). Full s (a .step)) (leb (r .inbound .time) maxTime) (routed-gives limit s r (addressed (s .config) (r .inbound .dst)) .full) (λ z. absurd (omega arith)))
+    (λ z. absurd (omega arith))
+
+-- 7 is given by fresh exactly when the configuration is outside a number, with the fresh server of the empty configuration
+pub fresh-7 : (c : Config) → (fresh c .result ≡ 7) ↔ (within c ≡ false)
+unfolding fresh
+fresh-7 c = (go (within c) refl, λ e. rw e refl)
+  where
+    go : (b : Bool) → within c ≡ b → pick b (step 0 (freshState c)) (step 7 (freshState emptyConfig)) .result ≡ 7 → within c ≡ false
+    go true e z = absurd (omega arith)
+    go false e z = e
+
+pub fresh-7-leaves : (c : Config) → within c ≡ false → fresh c ≡ step 7 (freshState emptyConfig)
+unfolding fresh
+fresh-7-leaves c e = rw e refl
