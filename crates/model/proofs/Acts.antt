@@ -1,10 +1,12 @@
--- No act depends on what is handed in: the act that a request asks is the one that the question says.
+-- A question says what the request would: no act depends on an outcome or on the value table, and neither do the refusals 10, 6 and 2.
 use Prim.Native.Nat.{ℕ, _+_, _-_, _%_}
-use mathlib.Core.Path.{_≡_, refl}
+use mathlib.Core.Path.{_≡_, refl, sym, _∙_}
 use mathlib.Core.Bool.{_&&_}
+use mathlib.Core.List.{[], _∷_}
 use mathlib.Core.Option.{Option, some, none}
 use lib.ListN.{length, getD}
 use lib.Dec.{leb, ltb, eqb}
+use Rattle.model.specs.Tests.{pick, memb}
 use Rattle.model.specs.Numbers.{maxTime}
 use Rattle.model.specs.Config.{ServiceConfig, SessionConfig, SecurityLevelConfig, findSession, findService, findDid, findLevel, writable, allowedIn}
 use Rattle.model.specs.Values.{Given, Table}
@@ -25,9 +27,10 @@ use Rattle.model.specs.Service34.{service34, addressLength, sizeLength}
 use Rattle.model.specs.Service36.{service36}
 use Rattle.model.specs.Service37.{service37}
 use Rattle.model.specs.Service38.{service38}
-use Rattle.model.specs.Request.{Inbound, Answer, service, guarded, seen, lengthFits, heard, addressed, routed, request}
+use Rattle.model.specs.Request.{Inbound, Answer, service, guarded, seen, served, carried, lengthFits, heard, addressed, routed, request}
 use Rattle.model.specs.Question.{bare, askedOf, question}
-use Rattle.model.proofs.Laws.{alike}
+use Rattle.model.proofs.Laws.{alike, memb-each}
+use Rattle.model.proofs.Leaves.Replies.{apply-gives}
 
 -- two answers that ask the same act: of a service, and of a request
 abbrev pub SameAct : Served → Served → Type 0
@@ -165,6 +168,18 @@ module _ (v : Seen) (g : Given) (t : Table) where
   act-guarded sid none = refl
   act-guarded sid (some r) = alike SameAct (allowedIn (v .session .sessionType) r) (act-service sid) refl
 
+-- a request's result as a question gives it: 10, 6 and 2 are told, and all else is 0
+abbrev pub told : ℕ → ℕ
+told n = pick (memb n (10 ∷ 6 ∷ 2 ∷ [])) n 0
+
+abbrev pub SameTold : Answer → Answer → Type 0
+SameTold a b = told (a .step .result) ≡ told (b .step .result)
+
+-- what a service's reply meets is not told
+carried-told : (limit : ℕ) (s : State) (i : Inbound) (a : Served) → told (carried limit s i a .step .result) ≡ 0
+carried-told limit s i a =
+    memb-each (λ n. told n ≡ 0) (carried limit s i a .step .result) (0 ∷ 3 ∷ []) (refl, (refl, tt)) (apply-gives limit s (i .src) (sidOf (i .frame)) (i .time) (a .effect) .result)
+
 module _ (limit : ℕ) (i : Inbound) (g : Given) (t : Table) where
   -- a request that is heard, and one that is routed
   act-heard : (s : State) (o : Option PendingRequest) → heard limit s (record { inbound = i; given = g; table = t }) o .act ≡ heard limit s (bare i) o .act
@@ -181,3 +196,20 @@ module _ (limit : ℕ) (i : Inbound) (g : Given) (t : Table) where
   pub question-act : (s : State) → request limit s (record { inbound = i; given = g; table = t }) .act ≡ question limit s i .act
   unfolding request question askedOf
   question-act s = alike SameAnswer (valid limit s) (alike SameAnswer (leb (i .time) maxTime) (act-routed s (addressed (s .config) (i .dst))) refl) refl
+
+  told-heard : (s : State) (o : Option PendingRequest) → SameTold (heard limit s (bare i) o) (heard limit s (record { inbound = i; given = g; table = t }) o)
+  unfolding heard
+  told-heard s (some p) = refl
+  told-heard s none =
+      alike SameTold (lengthFits (i .frame))
+      (carried-told limit s i (served limit s (bare i)) ∙ sym (carried-told limit s i (served limit s (record { inbound = i; given = g; table = t })))) refl
+
+  told-routed : (s : State) (o : Option AddressMode) → SameTold (routed limit s (bare i) o) (routed limit s (record { inbound = i; given = g; table = t }) o)
+  unfolding routed
+  told-routed s none = refl
+  told-routed s (some m) = told-heard (received s m (i .time)) (s .pending)
+
+  -- a question is refused by 10, 6 or 2 where the request would be, whatever comes with it; else its result is 0
+  pub question-result : (s : State) → question limit s i .result ≡ told (request limit s (record { inbound = i; given = g; table = t }) .step .result)
+  unfolding request question askedOf
+  question-result s = alike SameTold (valid limit s) (alike SameTold (leb (i .time) maxTime) (told-routed s (addressed (s .config) (i .dst))) refl) refl

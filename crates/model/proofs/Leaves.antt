@@ -2,28 +2,28 @@
 pub mod Replies
 pub mod Results
 pub mod Periodic
-use Prim.Native.Nat.{ℕ, suc, _≤_, _<_}
-use mathlib.Core.Path.{_≡_, refl, ap, sym, _∙_}
+pub mod Tick
+use Prim.Native.Nat.{ℕ, _≤_, _<_}
+use mathlib.Core.Path.{_≡_, refl}
 use mathlib.Core.Bool.{Bool, true, false, _&&_, true≢false, and-false}
 use mathlib.Core.Logic.{_↔_, _⊎_, inl, inr}
 use mathlib.Core.List.{List, [], _∷_}
 use mathlib.Core.Option.{Option, some, none}
 use native.Mathlib.Omega.{arith}
 use lib.ListN.{length}
-use lib.Dec.{leb, ltb}
+use lib.Dec.{leb}
 use borrow.Author.Tests.{leb-true, leb-false, le-leb, lt-leb}
 use Rattle.model.specs.Tests.{pick, memb}
 use Rattle.model.specs.Numbers.{Moment, maxTime, maxRequest, maxOutbox}
 use Rattle.model.specs.Config.{Config, emptyConfig, within}
-use Rattle.model.specs.Frame.{sidOf, negativeFrame, positiveFrame}
-use Rattle.model.specs.State.{AddressMode, PendingRequest, State, Step, step, freshState, fresh, valid, withPending, received}
-use Rattle.model.specs.Reply.{queued, withheld, refused, confirmed}
+use Rattle.model.specs.Frame.{sidOf, negativeFrame}
+use Rattle.model.specs.State.{AddressMode, PendingRequest, State, step, freshState, fresh, valid, withPending, received}
 use Rattle.model.specs.Request.{Request, Answer, plain, served, carried, lengthFits, heard, addressed, routed, request}
 use Rattle.model.specs.Pending.{completed, failed, complete, fail}
-use Rattle.model.specs.Drain.{Drained, records, written, unmoved, drain}
+use Rattle.model.specs.Drain.{records, written, unmoved, drain}
 use Rattle.model.specs.History.{Call, requests, questions, ticks, completes, fails, drains, call}
 use Rattle.model.proofs.Laws.{either, Each, memb-each, memb-never}
-use Rattle.model.proofs.Leaves.Replies.{Full, Gives, queued-3, queued-full, queued-answered, confirmed-answered, apply-gives}
+use Rattle.model.proofs.Leaves.Replies.{Full, Unmoved, queued-unmoved, confirmed-unmoved, queued-answered, confirmed-answered, apply-gives}
 use Rattle.model.proofs.Leaves.Results.{timeOf, refusedBy, passing, mayGive, routed-gives, call-10, call-6, call-passing}
 
 -- a call ends in one of three ways: by 10, by 6, or past both with another number
@@ -152,6 +152,23 @@ module _ (limit : ℕ) (s : State) (v : valid limit s ≡ true) where
     unfolding heard
     request-2-leaves k = rw (now-heard, misfit (r .inbound .frame) .1 k) refl
 
+  -- and 2 is given by no other request: a foreign frame gives 0, and one that comes while a request is pending 0 or 3
+  pub request-2-only : (r : Request) → r .inbound .time ≤ maxTime → request limit s r .step .result ≡ 2
+      → (s .pending ≡ none) × ((m : AddressMode) × (addressed (s .config) (r .inbound .dst) ≡ some m))
+  unfolding request routed heard
+  request-2-only r h = rw (v, le-leb (r .inbound .time) maxTime h) (mode (addressed (s .config) (r .inbound .dst)) refl)
+    where
+      free : (m : AddressMode) (o : Option PendingRequest) → heard limit (received s m (r .inbound .time)) r o .step .result ≡ 2 → o ≡ none
+      free m none z = refl
+      free m (some p) z =
+          absurd (memb-never 2 (heard limit (received s m (r .inbound .time)) r (some p) .step .result) (0 ∷ 3 ∷ []) refl
+          (queued-answered (received s m (r .inbound .time)) (r .inbound .dst) (negativeFrame (sidOf (r .inbound .frame)) 0x21) .result) z)
+
+      mode : (o : Option AddressMode) → addressed (s .config) (r .inbound .dst) ≡ o → routed limit s r o .step .result ≡ 2
+          → (s .pending ≡ none) × ((m : AddressMode) × (addressed (s .config) (r .inbound .dst) ≡ some m))
+      mode none e z = absurd (omega arith)
+      mode (some m) e z = (free m (s .pending) z, (m, e))
+
   -- 5 is given by drain exactly when the records exceed the buffer, and leaves state and buffer unchanged, with no frame drained
   pub drain-5 : (buffer : List ℕ) → (drain limit s buffer .step .result ≡ 5) ↔ (length buffer < length (records (s .queue)))
   unfolding drain
@@ -172,6 +189,25 @@ request-3 limit s r =
     either (λ (a : Answer). Full s (a .step)) (valid limit s)
     (either (λ (a : Answer). Full s (a .step)) (leb (r .inbound .time) maxTime) (routed-gives limit s r (addressed (s .config) (r .inbound .dst)) .full) (λ z. absurd (omega arith)))
     (λ z. absurd (omega arith))
+
+-- 3, of complete and of fail: the pending request has ended, and nothing else is changed
+pub complete-3 : (limit : ℕ) (s : State) (now : Moment) (payload : List ℕ) → complete limit s now payload .result ≡ 3 → complete limit s now payload .state ≡ withPending s none
+unfolding complete completed
+complete-3 limit s now payload =
+    either (Unmoved (withPending s none)) (valid limit s) (either (Unmoved (withPending s none)) (leb now maxTime) (go (s .pending)) (λ z. absurd (omega arith))) (λ z. absurd (omega arith))
+  where
+    go : (o : Option PendingRequest) → Unmoved (withPending s none) (completed limit s payload o)
+    go none = λ z. absurd (omega arith)
+    go (some p) = confirmed-unmoved limit (withPending s none) (p .dst) (p .sid) payload
+
+pub fail-3 : (limit : ℕ) (s : State) (now : Moment) (code : ℕ) → fail limit s now code .result ≡ 3 → fail limit s now code .state ≡ withPending s none
+unfolding fail failed
+fail-3 limit s now code =
+    either (Unmoved (withPending s none)) (valid limit s) (either (Unmoved (withPending s none)) (leb now maxTime) (go (s .pending)) (λ z. absurd (omega arith))) (λ z. absurd (omega arith))
+  where
+    go : (o : Option PendingRequest) → Unmoved (withPending s none) (failed s code o)
+    go none = λ z. absurd (omega arith)
+    go (some p) = queued-unmoved (withPending s none) (p .dst) (negativeFrame (p .sid) code)
 
 -- 7 is given by fresh exactly when the configuration is outside a number, with the fresh server of the empty configuration
 pub fresh-7 : (c : Config) → (fresh c .result ≡ 7) ↔ (within c ≡ false)

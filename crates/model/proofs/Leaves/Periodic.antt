@@ -2,19 +2,18 @@
 -- that entry and those after it stand.
 use Prim.Native.Nat.{ℕ, suc, _≤_, _<_, _%_}
 use mathlib.Core.Path.{_≡_, refl, ap, sym, _∙_}
-use mathlib.Core.Bool.{Bool, true, false, _&&_}
+use mathlib.Core.Bool.{Bool, true, false}
 use mathlib.Core.List.{List, [], _∷_, _++_, map, append-nil, append-assoc}
-use mathlib.Core.Option.{Option}
 use native.Mathlib.Omega.{arith}
 use lib.ListN.{length}
 use lib.Dec.{leb, ltb, eqb}
 use borrow.Author.Tests.{leb-true, lt-leb, le-leb, le-ltb, eqb-true, eqb-false, ne-eqb, eq-eqb}
 use Rattle.model.specs.Tests.{pick}
-use Rattle.model.specs.Numbers.{Moment, maxTime, maxOutbox}
+use Rattle.model.specs.Numbers.{Moment, maxOutbox}
 use Rattle.model.specs.Values.{Outcome, bytes, error, Table, value}
 use Rattle.model.specs.Frame.{Frame}
-use Rattle.model.specs.State.{Subscription, PendingRequest, State, Step, step, valid}
-use Rattle.model.specs.Tick.{s3, refreshed, Passed, kept, stopped, advanced, sent, dueSent, passOne, passAll, Ticked, withPassed, dispatched, periodic, thenPeriodic, tick}
+use Rattle.model.specs.State.{Subscription}
+use Rattle.model.specs.Tick.{Passed, kept, stopped, advanced, dueSent, passOne, passAll}
 use Rattle.model.proofs.Laws.{either}
 
 -- an error value meets 8, whatever the queue, and its byte goes with it

@@ -1,6 +1,6 @@
 -- What a reply leaves, and what result 3 means: a frame is to be queued and 16 are held.
 use Prim.Native.Nat.{ℕ, suc, _+_, _≤_}
-use mathlib.Core.Path.{_≡_, refl}
+use mathlib.Core.Path.{_≡_, refl, ap}
 use mathlib.Core.Bool.{Bool, true, false}
 use mathlib.Core.Logic.{_↔_}
 use mathlib.Core.List.{List, [], _∷_, _++_}
@@ -31,6 +31,18 @@ queued-3 s to b = (go (ltb (length (s .queue)) maxOutbox) refl, λ h. rw (le-ltb
     go : (t : Bool) → ltb (length (s .queue)) maxOutbox ≡ t → pick t (step 0 (withQueue s (s .queue ++ (record { dst = to; bytes = b } ∷ [])))) (step 3 s) .result ≡ 3 → maxOutbox ≤ length (s .queue)
     go true e z = absurd (omega arith)
     go false e z = ltb-false (length (s .queue)) maxOutbox e
+
+-- 3 leaves the very state that was given
+abbrev pub Unmoved : State → Step → Type 0
+Unmoved s p = p .result ≡ 3 → p .state ≡ s
+
+pub queued-unmoved : (s : State) (to : ℕ) (b : List ℕ) → Unmoved s (queued s to b)
+queued-unmoved s to b z = ap (λ (p : Step). p .state) (queued-full s to b (queued-3 s to b .0 z))
+
+pub confirmed-unmoved : (limit : ℕ) (s : State) (to sid : ℕ) (p : List ℕ) → Unmoved s (confirmed limit s to sid p)
+unfolding confirmed refused
+confirmed-unmoved limit s to sid p =
+    either (Unmoved s) (leb (suc (length p)) limit) (queued-unmoved s to (positiveFrame sid p)) (either (Unmoved s) (withheld (s .mode) 0x14) (λ z. refl) (queued-unmoved s to (negativeFrame sid 0x14)))
 
 -- 3 leaves the queue as it was, and 16 frames were held
 abbrev pub Full : State → Step → Type 0

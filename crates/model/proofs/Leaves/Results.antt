@@ -2,17 +2,15 @@
 -- valid, then 6 where the time is above 2^48: either leaves all unchanged.
 use Prim.Native.Nat.{ℕ, suc, _≤_, _<_}
 use mathlib.Core.Path.{_≡_, refl}
-use mathlib.Core.Bool.{Bool, true, false, _&&_}
-use mathlib.Core.Logic.{_↔_, _⊎_, inl, inr}
+use mathlib.Core.Bool.{true, false, _&&_}
 use mathlib.Core.List.{List, [], _∷_}
 use mathlib.Core.Option.{Option, some, none}
 use native.Mathlib.Omega.{arith}
 use lib.ListN.{length}
 use lib.Dec.{leb, ltb, eqb}
-use borrow.Author.Tests.{leb-true, leb-false, le-leb, lt-leb}
+use borrow.Author.Tests.{le-leb, lt-leb}
 use Rattle.model.specs.Tests.{pick, memb}
 use Rattle.model.specs.Numbers.{Moment, maxTime, maxOutbox}
-use Rattle.model.specs.Config.{findService}
 use Rattle.model.specs.Values.{Outcome, bytes, error, Table, value}
 use Rattle.model.specs.Frame.{sidOf, negativeFrame}
 use Rattle.model.specs.State.{AddressMode, Subscription, PendingRequest, State, Step, step, valid, withPending, received}
@@ -21,10 +19,10 @@ use Rattle.model.specs.Service.{noAct}
 use Rattle.model.specs.Request.{Request, Answer, served, lengthFits, heard, addressed, routed, request}
 use Rattle.model.specs.Question.{bare, askedOf, question}
 use Rattle.model.specs.Pending.{completed, failed, complete, fail}
-use Rattle.model.specs.Tick.{s3, refreshed, Passed, sent, stopped, dueSent, passOne, passAll, Ticked, dispatched, periodic, thenPeriodic, ticked, tick}
-use Rattle.model.specs.Drain.{Drained, records, written, unmoved, drain}
+use Rattle.model.specs.Tick.{s3, refreshed, Passed, dueSent, passOne, passAll, Ticked, dispatched, periodic, thenPeriodic, ticked, tick}
+use Rattle.model.specs.Drain.{Drained, records, drain}
 use Rattle.model.specs.History.{Call, requests, questions, ticks, completes, fails, drains, Done, call}
-use Rattle.model.proofs.Laws.{either, memb-each, memb-never, true-or-false}
+use Rattle.model.proofs.Laws.{either, memb-each}
 use Rattle.model.proofs.Leaves.Replies.{Answered, done-answered, queued-answered, confirmed-answered, begun-answered, pending-answered, Gives, answered-gives, wider, apply-gives}
 
 -- when a call is made: a drain has no time, and 0 serves for it

@@ -1,0 +1,117 @@
+-- 8, 4 and 3 of a tick: given exactly when, and what they leave.
+use Prim.Native.Nat.{ℕ, suc, _≤_, _<_}
+use mathlib.Core.Path.{_≡_, refl, ap, sym, _∙_}
+use mathlib.Core.Bool.{Bool, true, false}
+use mathlib.Core.Logic.{_⊎_, inl, inr}
+use mathlib.Core.List.{List, [], _∷_, _++_, map}
+use lib.ListN.{length}
+use lib.Dec.{leb, ltb}
+use borrow.Author.Tests.{leb-true, leb-false, ltb-false, le-leb, eq-eqb}
+use Rattle.model.specs.Tests.{pick}
+use Rattle.model.specs.Numbers.{Moment, maxTime, maxOutbox}
+use Rattle.model.specs.Values.{Outcome, bytes, error, Table, value}
+use Rattle.model.specs.State.{Subscription, State, Step, step, valid}
+use Rattle.model.specs.Tick.{s3, refreshed, Passed, stopped, sent, dueSent, passAll, withPassed, dispatched, periodic, thenPeriodic, tick}
+use Rattle.model.proofs.Laws.{memb-each}
+use Rattle.model.proofs.Leaves.Results.{refreshed-answered}
+use Rattle.model.proofs.Leaves.Periodic.{due-8, due-4, due-3, dueFrames, moved, stops-at, passed-clean, Met, met}
+
+-- why a due entry meets a number: 8 and the error byte for an error value; 4 for a value that, with the identifier byte, exceeds the
+-- limit; 3 for one that fits where 16 frames are held
+abbrev pub Why : ℕ → Passed → ℕ → ℕ → Outcome → Type 0
+Why limit a n err (error code) = (n ≡ 8) × (err ≡ code)
+Why limit a n err (bytes b) = ((n ≡ 4) × (err ≡ 0) × (limit < suc (length b))) ⊎ ((n ≡ 3) × (err ≡ 0) × (suc (length b) ≤ limit) × (maxOutbox ≤ length (a .queue)))
+
+module _ (limit : ℕ) (now : Moment) (a : Passed) (e : Subscription) (n err : ℕ) where
+  -- for those reasons a due entry stops the step
+  pub why-stops : (o : Outcome) → Why limit a n err o → dueSent limit now a e o ≡ stopped a e n err
+  why-stops (error code) w = rw (w .0, w .1) (due-8 limit now a e code)
+  why-stops (bytes b) (inl w) = rw (w .0, w .1) (due-4 limit now a e b (w .2))
+  why-stops (bytes b) (inr w) = rw (w .0, w .1) (due-3 limit now a e b (w .2) (w .3))
+
+  -- and for no others
+  pub stops-why : (o : Outcome) → a .result ≡ 0 → (n ≡ 0 → ⊥) → dueSent limit now a e o ≡ stopped a e n err → Why limit a n err o
+  unfolding dueSent
+  stops-why (error code) r z m = (sym (ap (λ (p : Passed). p .result) m), sym (ap (λ (p : Passed). p .err) m))
+  stops-why (bytes b) r z m = long (leb (suc (length b)) limit) refl m
+    where
+      full : (u : Bool) → ltb (length (a .queue)) maxOutbox ≡ u → suc (length b) ≤ limit → pick u (sent a now e b) (stopped a e 3 0) ≡ stopped a e n err → Why limit a n err (bytes b)
+      full true q l p = absurd (z (sym (ap (λ (p : Passed). p .result) p) ∙ r))
+      full false q l p = inr (sym (ap (λ (p : Passed). p .result) p), sym (ap (λ (p : Passed). p .err) p), l, ltb-false (length (a .queue)) maxOutbox q)
+
+      long : (u : Bool) → leb (suc (length b)) limit ≡ u → pick u (pick (ltb (length (a .queue)) maxOutbox) (sent a now e b) (stopped a e 3 0)) (stopped a e 4 0) ≡ stopped a e n err
+          → Why limit a n err (bytes b)
+      long true q p = full (ltb (length (a .queue)) maxOutbox) refl (leb-true (suc (length b)) limit q) p
+      long false q p = inl (sym (ap (λ (p : Passed). p .result) p), sym (ap (λ (p : Passed). p .err) p), leb-false (suc (length b)) limit q)
+
+-- so the entry by which a periodic step met a number met it for one of those reasons
+pub met-why : (limit : ℕ) (now : Moment) (t : Table) (es : List Subscription) (a : Passed) (n err : ℕ) (m : Met limit now t es a n err) → (n ≡ 0 → ⊥)
+    → Why limit (passAll limit now t (m .before) a) n err (value limit t (m .entry .identifier))
+met-why limit now t es a n err m z = stops-why limit now (passAll limit now t (m .before) a) (m .entry) n err (value limit t (m .entry .identifier)) (m .clean) z (m .meets)
+
+-- the periodic step's beginning
+abbrev pub start : State → Passed
+start s = record { result = 0; err = 0; entries = []; queue = s .queue }
+
+-- the state after S3 and the pending step, with that step's result
+abbrev pub awake : State → Moment → Step
+awake s now = refreshed (s3 s now) now (s .pending)
+
+module _ (limit : ℕ) (s : State) (now : Moment) (t : Table) (v : valid limit s ≡ true) (h : now ≤ maxTime) where
+  is-ticked : tick limit s now t ≡ thenPeriodic limit now t (awake s now)
+  unfolding tick
+  is-ticked = rw (v, le-leb now maxTime h) refl
+
+  -- result 3 of the pending step ends the tick
+  pub tick-ends : awake s now .result ≡ 3 → tick limit s now t ≡ record { err = 0; step = awake s now }
+  unfolding thenPeriodic
+  tick-ends e = rw (is-ticked, e) refl
+
+  -- else the periodic step follows
+  pub tick-goes-on : awake s now .result ≡ 0 → tick limit s now t ≡ periodic limit now t (awake s now .state)
+  unfolding thenPeriodic
+  tick-goes-on e = rw (is-ticked, e) refl
+
+  -- when an entry meets 8, 4 or 3 after entries that met none: that number, with the error byte for 8; the earlier due frames are
+  -- queued and their entries advanced; the entry and the later ones stand
+  pub tick-stops : (xs ys : List Subscription) (e : Subscription) (n err : ℕ) → awake s now .result ≡ 0 → awake s now .state .periodic ≡ xs ++ (e ∷ ys)
+      → passAll limit now t xs (start (awake s now .state)) .result ≡ 0 → e .next ≤ now → (n ≡ 0 → ⊥)
+      → Why limit (passAll limit now t xs (start (awake s now .state))) n err (value limit t (e .identifier))
+      → tick limit s now t
+      ≡ record {
+        err = err;
+        step = step n (withPassed (awake s now .state) (record {
+          result = n;
+          err = err;
+          entries = map (moved now) xs ++ (e ∷ ys);
+          queue = awake s now .state .queue ++ dueFrames limit now t xs;
+        }));
+      }
+  unfolding dispatched
+  tick-stops xs ys e n err r p c d z w =
+      rw (tick-goes-on r, p, stops-at limit now t xs ys e (start u) n err z c d (why-stops limit now a e n err (value limit t (e .identifier)) w), clean .0, clean .1) refl
+    where
+      u : State
+      u = awake s now .state
+
+      a : Passed
+      a = passAll limit now t xs (start u)
+
+      clean : (a .entries ≡ map (moved now) xs) × (a .queue ≡ u .queue ++ dueFrames limit now t xs)
+      clean = passed-clean limit now t xs (start u) refl c
+
+  -- a tick that gives another number than 0 met 3 in its pending step, or in its periodic step an entry met that number
+  pub tick-met : (tick limit s now t .step .result ≡ 0 → ⊥)
+      → (awake s now .result ≡ 3)
+      ⊎ Met limit now t (awake s now .state .periodic) (start (awake s now .state)) (tick limit s now t .step .result) (tick limit s now t .err)
+  unfolding thenPeriodic dispatched
+  tick-met = rw is-ticked (go (awake s now) zero-or-three)
+    where
+      zero-or-three : (awake s now .result ≡ 0) ⊎ (awake s now .result ≡ 3)
+      zero-or-three =
+          memb-each (λ n. (n ≡ 0) ⊎ (n ≡ 3)) (awake s now .result) (0 ∷ 3 ∷ []) (inl refl, (inr refl, tt)) (refreshed-answered (s3 s now) now (s .pending) .result)
+
+      go : (p : Step) → (p .result ≡ 0) ⊎ (p .result ≡ 3) → (thenPeriodic limit now t p .step .result ≡ 0 → ⊥)
+          → (p .result ≡ 3) ⊎ Met limit now t (p .state .periodic) (start (p .state)) (thenPeriodic limit now t p .step .result) (thenPeriodic limit now t p .err)
+      go p (inl e) = rw (eq-eqb (p .result) 0 e) (λ z. inr (met limit now t (p .state .periodic) (start (p .state)) refl z))
+      go p (inr e) = λ z. inl e
