@@ -121,7 +121,7 @@ module _ (v : Seen) (g : Given) (t : Table) where
       (alike SameAct (writable (v .session .sessionType) (findDid (v .config) (word (v .payload) 0))) (alike SameAct (heldFor (v .session .level) (findDid (v .config) (word (v .payload) 0))) refl refl) refl)
       refl
 
-  -- 27: a seed asked, a key sent
+  -- 27: a seed asked
   act-seed : (level : ℕ) → SameAct (requestSeed w level) (requestSeed v level)
   unfolding requestSeed seedAsked
   act-seed level = alike SameAct (locked (v .security) level (v .now)) refl (row (findLevel (v .config) level))
@@ -130,12 +130,14 @@ module _ (v : Seen) (g : Given) (t : Table) where
       row none = refl
       row (some r) = refl
 
+  -- 27: a key sent
   act-key : (level : ℕ) → SameAct (sendKey w level) (sendKey v level)
   unfolding sendKey
   act-key level =
       alike SameAct (locked (v .security) level (v .now)) refl
       (alike SameAct (awaits (v .security) level) (alike SameAct (keyFits (length (v .payload) - 1) (findLevel (v .config) level)) refl refl) refl)
 
+  -- 27 by its access type
   act27 : SameAct (service27 w) (service27 v)
   unfolding service27 securityAccess
   act27 =
@@ -172,6 +174,7 @@ module _ (v : Seen) (g : Given) (t : Table) where
 abbrev pub told : ℕ → ℕ
 told n = pick (memb n (10 ∷ 6 ∷ 2 ∷ [])) n 0
 
+-- two answers of which a question would tell the same
 abbrev pub SameTold : Answer → Answer → Type 0
 SameTold a b = told (a .step .result) ≡ told (b .step .result)
 
@@ -197,6 +200,7 @@ module _ (limit : ℕ) (i : Inbound) (g : Given) (t : Table) where
   unfolding request question askedOf
   question-act s = alike SameAnswer (valid limit s) (alike SameAnswer (leb (i .time) maxTime) (act-routed s (addressed (s .config) (i .dst))) refl) refl
 
+  -- so with what is told of a request that is heard, and of one that is routed
   told-heard : (s : State) (o : Option PendingRequest) → SameTold (heard limit s (bare i) o) (heard limit s (record { inbound = i; given = g; table = t }) o)
   unfolding heard
   told-heard s (some p) = refl

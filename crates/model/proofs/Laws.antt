@@ -4,7 +4,6 @@ use mathlib.Core.Path.{_≡_, refl, ap}
 use mathlib.Core.Bool.{Bool, true, false, _&&_, false≢true}
 use mathlib.Core.List.{List, [], _∷_, _++_}
 use mathlib.Core.Option.{Option, some, none}
-use mathlib.Core.Logic.{_⊎_, inl, inr}
 use native.Mathlib.Omega.{arith}
 use lib.ListN.{length, length-append}
 use lib.Dec.{leb, ltb, eqb}
@@ -132,8 +131,3 @@ memb-each P n (x ∷ ns) h e = go (eqb x n) refl (memb-each P n ns (h .1)) e
 -- a number that does not stand in a list is none that does
 pub memb-never : (k n : ℕ) (ns : List ℕ) → memb k ns ≡ false → memb n ns ≡ true → n ≡ k → ⊥
 memb-never k n ns out h e = let z : false ≡ true = cc in false≢true z
-
--- a test passes or fails
-pub true-or-false : (b : Bool) → (b ≡ true) ⊎ (b ≡ false)
-true-or-false true = inl refl
-true-or-false false = inr refl

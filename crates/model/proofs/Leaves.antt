@@ -17,7 +17,7 @@ use Rattle.model.specs.Tests.{pick, memb}
 use Rattle.model.specs.Numbers.{Moment, maxTime, maxRequest, maxOutbox}
 use Rattle.model.specs.Config.{Config, emptyConfig, within}
 use Rattle.model.specs.Frame.{sidOf, negativeFrame}
-use Rattle.model.specs.State.{AddressMode, PendingRequest, State, step, freshState, fresh, valid, withPending, received}
+use Rattle.model.specs.State.{AddressMode, PendingRequest, State, Step, step, freshState, fresh, valid, withPending, received}
 use Rattle.model.specs.Request.{Request, Answer, plain, served, carried, lengthFits, heard, addressed, routed, request}
 use Rattle.model.specs.Pending.{completed, failed, complete, fail}
 use Rattle.model.specs.Drain.{records, written, unmoved, drain}
@@ -32,6 +32,7 @@ pub data Ends (limit : ℕ) (s : State) (c : Call) : Type 0 where
   late : valid limit s ≡ true → maxTime < timeOf c → call limit s c ≡ refusedBy 6 s c → Ends limit s c
   passes : valid limit s ≡ true → timeOf c ≤ maxTime → memb (call limit s c .shown .result) (passing c) ≡ true → Ends limit s c
 
+-- every call does
 pub ends : (limit : ℕ) (s : State) (c : Call) → Ends limit s c
 ends limit s c = go (valid limit s) (leb (timeOf c) maxTime) refl refl
   where
@@ -85,10 +86,11 @@ exactly-6 limit s c w = (go (ends limit s c), λ h. rw (call-6 limit s c w h) re
     go (late v h e) z = h
     go (passes v h m) z = absurd (memb-never 6 (call limit s c .shown .result) (passing c) (numbers c .3) m z)
 
--- a frame's length that does not fit is 0 or above 4095
+-- a frame's length is 0 or above 4095
 abbrev pub Misfit : List ℕ → Type 0
 Misfit f = (length f ≡ 0) ⊎ (maxRequest < length f)
 
+-- which is to say that it does not fit
 misfit : (f : List ℕ) → (lengthFits f ≡ false) ↔ Misfit f
 misfit f = (there (leb 1 (length f)) (leb (length f) maxRequest) refl refl, back)
   where
@@ -103,7 +105,7 @@ misfit f = (there (leb 1 (length f)) (leb (length f) maxRequest) refl refl, back
 
 -- the other numbers, of a valid state and a time up to 2^48
 module _ (limit : ℕ) (s : State) (v : valid limit s ≡ true) where
-  -- 1 is given by complete and by fail exactly when nothing is pending, and leaves all unchanged
+  -- 1 is given by complete exactly when nothing is pending
   pub complete-1 : (now : Moment) (payload : List ℕ) → now ≤ maxTime → (complete limit s now payload .result ≡ 1) ↔ (s .pending ≡ none)
   unfolding complete completed
   complete-1 now payload h = rw (v, le-leb now maxTime h) (go (s .pending), λ e. rw e refl)
@@ -112,10 +114,12 @@ module _ (limit : ℕ) (s : State) (v : valid limit s ≡ true) where
       go none z = refl
       go (some p) z = absurd (memb-never 1 (completed limit s payload (some p) .result) (0 ∷ 3 ∷ []) refl (confirmed-answered limit (withPending s none) (p .dst) (p .sid) payload .result) z)
 
+  -- and leaves all unchanged
   pub complete-1-leaves : (now : Moment) (payload : List ℕ) → now ≤ maxTime → s .pending ≡ none → complete limit s now payload ≡ step 1 s
   unfolding complete completed
   complete-1-leaves now payload h e = rw (v, le-leb now maxTime h, e) refl
 
+  -- so too by fail
   pub fail-1 : (now : Moment) (code : ℕ) → now ≤ maxTime → (fail limit s now code .result ≡ 1) ↔ (s .pending ≡ none)
   unfolding fail failed
   fail-1 now code h = rw (v, le-leb now maxTime h) (go (s .pending), λ e. rw e refl)
@@ -124,17 +128,19 @@ module _ (limit : ℕ) (s : State) (v : valid limit s ≡ true) where
       go none z = refl
       go (some p) z = absurd (memb-never 1 (failed s code (some p) .result) (0 ∷ 3 ∷ []) refl (queued-answered (withPending s none) (p .dst) (negativeFrame (p .sid) code) .result) z)
 
+  -- which also leaves all unchanged
   pub fail-1-leaves : (now : Moment) (code : ℕ) → now ≤ maxTime → s .pending ≡ none → fail limit s now code ≡ step 1 s
   unfolding fail failed
   fail-1-leaves now code h e = rw (v, le-leb now maxTime h, e) refl
 
-  -- 2 is given, of an addressed frame with nothing pending, exactly when its length is 0 or above 4095,
-  -- and leaves the address mode and last_rx set and all else unchanged
+  -- 2 concerns a frame that is addressed while nothing is pending
   module _ (r : Request) (m : AddressMode) (h : r .inbound .time ≤ maxTime) (a : addressed (s .config) (r .inbound .dst) ≡ some m) (p : s .pending ≡ none) where
+    -- such a frame is heard
     now-heard : request limit s r ≡ heard limit (received s m (r .inbound .time)) r none
     unfolding request routed
     now-heard = rw (v, le-leb (r .inbound .time) maxTime h, a, p) refl
 
+    -- 2 is given exactly when its length is 0 or above 4095
     pub request-2 : (request limit s r .step .result ≡ 2) ↔ ((length (r .inbound .frame) ≡ 0) ⊎ (maxRequest < length (r .inbound .frame)))
     unfolding heard
     request-2 = rw now-heard (λ z. misfit (r .inbound .frame) .0 (go (lengthFits (r .inbound .frame)) z), λ k. rw (misfit (r .inbound .frame) .1 k) refl)
@@ -148,11 +154,12 @@ module _ (limit : ℕ) (s : State) (v : valid limit s ≡ true) where
             (apply-gives limit t (r .inbound .src) (sidOf (r .inbound .frame)) (r .inbound .time) (served limit t r .effect) .result) z)
         go false z = refl
 
+    -- and leaves the address mode and last_rx set, and all else unchanged
     pub request-2-leaves : (length (r .inbound .frame) ≡ 0) ⊎ (maxRequest < length (r .inbound .frame)) → request limit s r ≡ plain (step 2 (received s m (r .inbound .time)))
     unfolding heard
     request-2-leaves k = rw (now-heard, misfit (r .inbound .frame) .1 k) refl
 
-  -- and 2 is given by no other request: a foreign frame gives 0, and one that comes while a request is pending 0 or 3
+  -- 2 is given for no other frame: a foreign frame gives 0, and one that comes while a request is pending 0 or 3
   pub request-2-only : (r : Request) → r .inbound .time ≤ maxTime → request limit s r .step .result ≡ 2
       → (s .pending ≡ none) × ((m : AddressMode) × (addressed (s .config) (r .inbound .dst) ≡ some m))
   unfolding request routed heard
@@ -169,7 +176,7 @@ module _ (limit : ℕ) (s : State) (v : valid limit s ≡ true) where
       mode none e z = absurd (omega arith)
       mode (some m) e z = (free m (s .pending) z, (m, e))
 
-  -- 5 is given by drain exactly when the records exceed the buffer, and leaves state and buffer unchanged, with no frame drained
+  -- 5 is given by drain exactly when the records exceed the buffer
   pub drain-5 : (buffer : List ℕ) → (drain limit s buffer .step .result ≡ 5) ↔ (length buffer < length (records (s .queue)))
   unfolding drain
   drain-5 buffer = rw v (go (leb (length (records (s .queue))) (length buffer)) refl, λ h. rw (lt-leb (length (records (s .queue))) (length buffer) h) refl)
@@ -178,6 +185,7 @@ module _ (limit : ℕ) (s : State) (v : valid limit s ≡ true) where
       go true e z = absurd (omega arith)
       go false e z = leb-false (length (records (s .queue))) (length buffer) e
 
+  -- and leaves state and buffer unchanged, with no frame drained
   pub drain-5-leaves : (buffer : List ℕ) → length buffer < length (records (s .queue)) → drain limit s buffer ≡ unmoved 5 s buffer
   unfolding drain
   drain-5-leaves buffer h = rw (v, lt-leb (length (records (s .queue))) (length buffer) h) refl
@@ -190,26 +198,29 @@ request-3 limit s r =
     (either (λ (a : Answer). Full s (a .step)) (leb (r .inbound .time) maxTime) (routed-gives limit s r (addressed (s .config) (r .inbound .dst)) .full) (λ z. absurd (omega arith)))
     (λ z. absurd (omega arith))
 
--- 3, of complete and of fail: the pending request has ended, and nothing else is changed
+-- past 10 and 6, which are not 3
+gated-3 : (limit : ℕ) (s u : State) (now : Moment) (x : Step) → Unmoved u x → Unmoved u (pick (valid limit s) (pick (leb now maxTime) x (step 6 s)) (step 10 s))
+gated-3 limit s u now x h = either (Unmoved u) (valid limit s) (either (Unmoved u) (leb now maxTime) h (λ z. absurd (omega arith))) (λ z. absurd (omega arith))
+
+-- 3, of complete: the pending request has ended, and nothing else is changed
 pub complete-3 : (limit : ℕ) (s : State) (now : Moment) (payload : List ℕ) → complete limit s now payload .result ≡ 3 → complete limit s now payload .state ≡ withPending s none
 unfolding complete completed
-complete-3 limit s now payload =
-    either (Unmoved (withPending s none)) (valid limit s) (either (Unmoved (withPending s none)) (leb now maxTime) (go (s .pending)) (λ z. absurd (omega arith))) (λ z. absurd (omega arith))
+complete-3 limit s now payload = gated-3 limit s (withPending s none) now (completed limit s payload (s .pending)) (go (s .pending))
   where
     go : (o : Option PendingRequest) → Unmoved (withPending s none) (completed limit s payload o)
     go none = λ z. absurd (omega arith)
     go (some p) = confirmed-unmoved limit (withPending s none) (p .dst) (p .sid) payload
 
+-- and so of fail
 pub fail-3 : (limit : ℕ) (s : State) (now : Moment) (code : ℕ) → fail limit s now code .result ≡ 3 → fail limit s now code .state ≡ withPending s none
 unfolding fail failed
-fail-3 limit s now code =
-    either (Unmoved (withPending s none)) (valid limit s) (either (Unmoved (withPending s none)) (leb now maxTime) (go (s .pending)) (λ z. absurd (omega arith))) (λ z. absurd (omega arith))
+fail-3 limit s now code = gated-3 limit s (withPending s none) now (failed s code (s .pending)) (go (s .pending))
   where
     go : (o : Option PendingRequest) → Unmoved (withPending s none) (failed s code o)
     go none = λ z. absurd (omega arith)
     go (some p) = queued-unmoved (withPending s none) (p .dst) (negativeFrame (p .sid) code)
 
--- 7 is given by fresh exactly when the configuration is outside a number, with the fresh server of the empty configuration
+-- 7 is given by fresh exactly when the configuration is outside a number
 pub fresh-7 : (c : Config) → (fresh c .result ≡ 7) ↔ (within c ≡ false)
 unfolding fresh
 fresh-7 c = (go (within c) refl, λ e. rw e refl)
@@ -218,6 +229,7 @@ fresh-7 c = (go (within c) refl, λ e. rw e refl)
     go true e z = absurd (omega arith)
     go false e z = e
 
+-- and comes with the fresh server of the empty configuration
 pub fresh-7-leaves : (c : Config) → within c ≡ false → fresh c ≡ step 7 (freshState emptyConfig)
 unfolding fresh
 fresh-7-leaves c e = rw e refl

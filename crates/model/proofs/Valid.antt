@@ -55,22 +55,25 @@ module _ (limit : ℕ) (room : 3 ≤ limit) where
   received-valid : (s : State) (m : AddressMode) (now : Moment) → now ≤ maxTime → Valid limit s → Valid limit (received s m now)
   received-valid s m now t h = record { config = h .config; lastRx = now-valid now t; security = h .security; periodic = h .periodic; pending = h .pending; queue = h .queue }
 
+  -- a request that is routed, also one to a foreign address
   routed-valid : (s : State) (r : Request) (o : Option AddressMode) → r .inbound .time ≤ maxTime → Valid limit s → ValidStep limit (routed limit s r o .step)
   unfolding routed
   routed-valid s r none t h = h
   routed-valid s r (some m) t h = heard-valid (received s m (r .inbound .time)) r (s .pending) t (received-valid s m (r .inbound .time) t h)
 
-  -- a pending request ends
+  -- a pending request ends by an answer
   completed-valid : (s : State) (p : List ℕ) (o : Option PendingRequest) → Valid limit s → ValidStep limit (completed limit s p o)
   unfolding completed
   completed-valid s p none h = h
   completed-valid s p (some q) h = confirmed-valid limit room (withPending s none) (q .dst) (q .sid) p (pending-valid h refl)
 
+  -- or by a code
   failed-valid : (s : State) (code : ℕ) (o : Option PendingRequest) → Valid limit s → ValidStep limit (failed s code o)
   unfolding failed
   failed-valid s code none h = h
   failed-valid s code (some q) h = negative-valid limit room (q .dst) (q .sid) code (pending-valid h refl)
 
+  -- the queue is emptied, or stands
   drained-valid : (s : State) (b : List ℕ) → Valid limit s → Valid limit (drain limit s b .step .state)
   unfolding drain
   drained-valid s b h =

@@ -97,6 +97,7 @@ module _ (limit : ℕ) (now : Moment) (t : Table) where
       Clean : Passed → Type 0
       Clean p = p .result ≡ 0 → (p .entries ≡ a .entries ++ (advanced now e ∷ [])) × (p .queue ≡ a .queue ++ frameOf e (bytes b))
 
+  -- one that was not due stands, and queues nothing
   one-clean : (a : Passed) (e : Subscription) → a .result ≡ 0 → passOne limit now t a e .result ≡ 0
       → (passOne limit now t a e .entries ≡ a .entries ++ (moved now e ∷ []))
       × (passOne limit now t a e .queue ≡ a .queue ++ dueFrame limit now t e)
@@ -121,7 +122,7 @@ module _ (limit : ℕ) (now : Moment) (t : Table) where
         rest .1 ∙ ap (λ (q : List Frame). q ++ dueFrames limit now t xs) (one .1) ∙ append-assoc (a .queue) (dueFrame limit now t e) (dueFrames limit now t xs),
       )
 
-  -- a result other than 0 was met by one entry: the first due one that met any, after entries that met none
+  -- an entry that met a number: it was due, and those before it met none
   pub record Met (es : List Subscription) (a : Passed) (n err : ℕ) : Type 0 where
     pub before : List Subscription
     pub entry : Subscription
@@ -153,6 +154,7 @@ module _ (limit : ℕ) (now : Moment) (t : Table) where
       go true d z = (leb-true (e .next) now d, due-stops a e (value limit t (e .identifier)) r z)
       go false d z = absurd (z r)
 
+  -- a step that ends with a number other than 0 has such an entry
   pub met : (es : List Subscription) (a : Passed) → a .result ≡ 0 → (passAll limit now t es a .result ≡ 0 → ⊥)
       → Met es a (passAll limit now t es a .result) (passAll limit now t es a .err)
   met [] a r z = absurd (z r)

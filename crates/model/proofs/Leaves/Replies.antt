@@ -36,9 +36,11 @@ queued-3 s to b = (go (ltb (length (s .queue)) maxOutbox) refl, λ h. rw (le-ltb
 abbrev pub Unmoved : State → Step → Type 0
 Unmoved s p = p .result ≡ 3 → p .state ≡ s
 
+-- so it does where a frame is queued
 pub queued-unmoved : (s : State) (to : ℕ) (b : List ℕ) → Unmoved s (queued s to b)
 queued-unmoved s to b z = ap (λ (p : Step). p .state) (queued-full s to b (queued-3 s to b .0 z))
 
+-- and where a positive payload is answered, with 0x14 in its place or not
 pub confirmed-unmoved : (limit : ℕ) (s : State) (to sid : ℕ) (p : List ℕ) → Unmoved s (confirmed limit s to sid p)
 unfolding confirmed refused
 confirmed-unmoved limit s to sid p =
@@ -60,6 +62,7 @@ pub record Answered (s : State) (p : Step) : Type 0 where
 pub done-answered : (s : State) → Answered s (step 0 s)
 done-answered s = record { result = refl; full = λ z. absurd (omega arith); session = refl; security = refl; periodic = refl }
 
+-- so a frame that is queued
 pub queued-answered : (s : State) (to : ℕ) (b : List ℕ) → Answered s (queued s to b)
 unfolding queued
 queued-answered s to b = go (ltb (length (s .queue)) maxOutbox) refl
@@ -68,10 +71,12 @@ queued-answered s to b = go (ltb (length (s .queue)) maxOutbox) refl
     go true e = record { result = refl; full = λ z. absurd (omega arith); session = refl; security = refl; periodic = refl }
     go false e = record { result = refl; full = λ z. (refl, ltb-false (length (s .queue)) maxOutbox e); session = refl; security = refl; periodic = refl }
 
+-- a negative code, withheld or not
 pub refused-answered : (s : State) (to sid code : ℕ) → Answered s (refused s to sid code)
 unfolding refused
 refused-answered s to sid code = either (Answered s) (withheld (s .mode) code) (done-answered s) (queued-answered s to (negativeFrame sid code))
 
+-- a positive payload, or 0x14
 pub confirmed-answered : (limit : ℕ) (s : State) (to sid : ℕ) (p : List ℕ) → Answered s (confirmed limit s to sid p)
 unfolding confirmed
 confirmed-answered limit s to sid p = either (Answered s) (leb (suc (length p)) limit) (queued-answered s to (positiveFrame sid p)) (refused-answered s to sid 0x14)
@@ -80,6 +85,7 @@ confirmed-answered limit s to sid p = either (Answered s) (leb (suc (length p)) 
 pub pending-answered : (s : State) (q : Option PendingRequest) (p : Step) → Answered (withPending s q) p → Answered s p
 pending-answered s q p a = record { result = a .result; full = a .full; session = a .session; security = a .security; periodic = a .periodic }
 
+-- a request that becomes pending
 pub begun-answered : (s : State) (to sid : ℕ) (now : Moment) → Answered s (begun s to sid now)
 unfolding begun
 begun-answered s to sid now = pending-answered s p (queued (withPending s p) to (negativeFrame sid 0x78)) (queued-answered (withPending s p) to (negativeFrame sid 0x78))
@@ -87,6 +93,7 @@ begun-answered s to sid now = pending-answered s p (queued (withPending s p) to 
     p : Option PendingRequest
     p = some (record { dst = to; sid = sid; deadline = now + p2ExtOf (findSession (s .config) (s .session .sessionType)) })
 
+-- and any reply
 pub replied-answered : (limit : ℕ) (s : State) (to sid : ℕ) (now : Moment) (r : Reply) → Answered s (replied limit s to sid now r)
 unfolding replied
 replied-answered limit s to sid now silent = done-answered s
@@ -104,7 +111,7 @@ pub record Gives (ns : List ℕ) (s : State) (p : Step) : Type 0 where
 pub answered-gives : {s : State} {p : Step} → Answered s p → Gives (0 ∷ 3 ∷ []) s p
 answered-gives a = record { result = a .result; full = a .full }
 
--- and so one of more numbers
+-- one of some numbers is one of more
 pub wider : (ns ms : List ℕ) {s : State} {p : Step} → Each (λ n. memb n ms ≡ true) ns → Gives ns s p → Gives ms s p
 wider ns ms {p = p} e a = record { result = memb-each (λ n. memb n ms ≡ true) (p .result) ns e (a .result); full = a .full }
 

@@ -84,7 +84,7 @@ routed-gives limit s r (some m) = record { result = a .result; full = a .full }
     a : Gives (0 ∷ 2 ∷ 3 ∷ []) (received s m (r .inbound .time)) (heard limit (received s m (r .inbound .time)) r (s .pending) .step)
     a = heard-gives limit (received s m (r .inbound .time)) r (s .pending)
 
--- the end of a pending request gives 0, 1 or 3
+-- a pending request's answer gives 0, 1 or 3
 pub completed-gives : (limit : ℕ) (s : State) (payload : List ℕ) (o : Option PendingRequest) → Gives (0 ∷ 1 ∷ 3 ∷ []) s (completed limit s payload o)
 unfolding completed
 completed-gives limit s payload none = record { result = refl; full = λ z. absurd (omega arith) }
@@ -92,6 +92,7 @@ completed-gives limit s payload (some p) =
     wider (0 ∷ 3 ∷ []) (0 ∷ 1 ∷ 3 ∷ []) (refl, (refl, tt))
     (answered-gives (pending-answered s none (confirmed limit (withPending s none) (p .dst) (p .sid) payload) (confirmed-answered limit (withPending s none) (p .dst) (p .sid) payload)))
 
+-- and so does its failure
 pub failed-gives : (s : State) (code : ℕ) (o : Option PendingRequest) → Gives (0 ∷ 1 ∷ 3 ∷ []) s (failed s code o)
 unfolding failed
 failed-gives s code none = record { result = refl; full = λ z. absurd (omega arith) }
@@ -105,21 +106,24 @@ unfolding refreshed begun
 refreshed-answered s now none = done-answered s
 refreshed-answered s now (some p) = either (Answered s) (leb (p .deadline) now) (begun-answered s (p .dst) (p .sid) now) (done-answered s)
 
--- its periodic step 0, 3, 4 or 8
+-- the numbers of its periodic step: 0, 3, 4 or 8
 abbrev Periodic : Passed → Type 0
 Periodic a = memb (a .result) (0 ∷ 3 ∷ 4 ∷ 8 ∷ []) ≡ true
 
+-- a due entry meets one of those
 due-result : (limit : ℕ) (now : Moment) (a : Passed) (e : Subscription) (o : Outcome) → Periodic a → Periodic (dueSent limit now a e o)
 unfolding dueSent
 due-result limit now a e (error code) h = refl
 due-result limit now a e (bytes b) h = either Periodic (leb (suc (length b)) limit) (either Periodic (ltb (length (a .queue)) maxOutbox) h refl) refl
 
+-- so the whole step does
 passAll-result : (limit : ℕ) (now : Moment) (t : Table) (es : List Subscription) (a : Passed) → Periodic a → Periodic (passAll limit now t es a)
 unfolding passOne
 passAll-result limit now t [] a h = h
 passAll-result limit now t (e ∷ es) a h =
     passAll-result limit now t es (passOne limit now t a e) (either Periodic (eqb (a .result) 0 && leb (e .next) now) (due-result limit now a e (value limit t (e .identifier)) h) h)
 
+-- and the tick does
 ticked-result : (limit : ℕ) (s : State) (now : Moment) (t : Table) → memb (ticked limit s now t .step .result) (0 ∷ 3 ∷ 4 ∷ 8 ∷ []) ≡ true
 unfolding thenPeriodic dispatched
 ticked-result limit s now t = go (refreshed (s3 s now) now (s .pending)) (refreshed-answered (s3 s now) now (s .pending))

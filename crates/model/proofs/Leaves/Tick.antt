@@ -58,6 +58,7 @@ abbrev pub awake : State → Moment → Step
 awake s now = refreshed (s3 s now) now (s .pending)
 
 module _ (limit : ℕ) (s : State) (now : Moment) (t : Table) (v : valid limit s ≡ true) (h : now ≤ maxTime) where
+  -- past 10 and 6, a tick is S3, the pending step and then the periodic step
   is-ticked : tick limit s now t ≡ thenPeriodic limit now t (awake s now)
   unfolding tick
   is-ticked = rw (v, le-leb now maxTime h) refl

@@ -26,6 +26,7 @@ use Rattle.model.proofs.Laws.{either}
 abbrev pub OnlyReplies : Seen → Effect → Type 0
 OnlyReplies v e = e ≡ says v (e .reply)
 
+-- a service that does only that
 abbrev pub Replies : Seen → Served → Type 0
 Replies v a = OnlyReplies v (a .effect)
 
@@ -64,6 +65,7 @@ pub only2F : (v : Seen) → Replies v (service2F v)
 unfolding service2F controlled
 only2F v = either (Replies v) (leb 3 (length (v .payload))) (on-outcome v (controlled v) (λ b. refl) (λ c. refl) (outcome (v .limit) (v .given))) refl
 
+-- what 34, 37 and 38 make of their act's outcome
 passed-only : (v : Seen) (o : Outcome) → OnlyReplies v (passed v o)
 unfolding passed
 passed-only v = on-outcome v (passed v) (λ b. refl) (λ c. refl)

@@ -7,7 +7,7 @@ use lib.ListN.{length}
 use lib.Dec.{leb, ltb, lit<}
 use borrow.Author.Tests.{ltb-true, le-leb}
 use Rattle.model.specs.Tests.{all}
-use Rattle.model.specs.Numbers.{Moment, Span, maxTime, maxPeriodic, maxOutbox, maxSpan, maxSessions, maxServices, maxDids, maxLevels}
+use Rattle.model.specs.Numbers.{Moment, Span, maxTime, maxPeriodic, maxOutbox, maxSpan, maxSessions, maxServices, maxDids, maxLevels, maxListed, maxSeed}
 use Rattle.model.specs.Config.{Config, SessionConfig, DidConfig, SecurityLevelConfig, isSession, isDid, isLevel, findSession, findDid, findLevel, p2ExtOf, minIntervalOf, lockoutOf, sessionWithin, serviceWithin, didWithin, levelWithin, within, tableWithin}
 use Rattle.model.specs.State.{State, valid, momentValid, securityValid, subscriptionValid, pendingValid, frameValid}
 use Rattle.model.proofs.Laws.{both, left, right, first-or}
@@ -68,12 +68,13 @@ valid-parts limit s h = record {
     hb : (a && b) ≡ true
     hb = left (a && b) c hc
 
--- the rows that a configuration within the numbers has: sessions, identifiers and levels each keep theirs
+-- the rows of sessions, identifiers and levels keep the numbers
 pub record Rows (c : Config) : Type 0 where
   pub sessions : all sessionWithin (c .sessions) ≡ true
   pub dids : all didWithin (c .dids) ≡ true
   pub levels : all levelWithin (c .levels) ≡ true
 
+-- a configuration within the numbers has such rows
 pub within-rows : (c : Config) → within c ≡ true → Rows c
 unfolding within
 within-rows c h = record {
@@ -100,24 +101,26 @@ within-rows c h = record {
     hb : (a && b) ≡ true
     hb = left (a && b) d hd
 
--- P2*, an identifier's minimum interval and a level's lockout are spans below 2^32, whether a row says so or the default serves
+-- P2* of a session is a span below 2^32, whether a row says it or the default serves
 pub p2Ext-below : (c : Config) (x : ℕ) → within c ≡ true → p2ExtOf (findSession c x) < maxSpan
 p2Ext-below c x h = first-or (λ o. p2ExtOf o < maxSpan) (isSession x) sessionWithin (c .sessions) (within-rows c h .sessions) (lit< tt) row
   where
     row : (r : SessionConfig) → sessionWithin r ≡ true → r .p2Ext < maxSpan
     row r e = ltb-true (r .p2Ext) maxSpan (right (ltb (r .p2) maxSpan) (ltb (r .p2Ext) maxSpan) (left (ltb (r .p2) maxSpan && ltb (r .p2Ext) maxSpan) (ltb (r .s3) maxSpan) e))
 
+-- so is the minimum interval of an identifier
 pub minInterval-below : (c : Config) (x : ℕ) → within c ≡ true → minIntervalOf (findDid c x) < maxSpan
 minInterval-below c x h = first-or (λ o. minIntervalOf o < maxSpan) (isDid x) didWithin (c .dids) (within-rows c h .dids) (lit< tt) row
   where
     row : (r : DidConfig) → didWithin r ≡ true → r .minInterval < maxSpan
-    row r e = ltb-true (r .minInterval) maxSpan (right (leb (length (r .readableIn)) 8 && leb (length (r .writableIn)) 8) (ltb (r .minInterval) maxSpan) e)
+    row r e = ltb-true (r .minInterval) maxSpan (right (leb (length (r .readableIn)) maxListed && leb (length (r .writableIn)) maxListed) (ltb (r .minInterval) maxSpan) e)
 
+-- and so is the lockout of a level
 pub lockout-below : (c : Config) (x : ℕ) → within c ≡ true → lockoutOf (findLevel c x) < maxSpan
 lockout-below c x h = first-or (λ o. lockoutOf o < maxSpan) (isLevel x) levelWithin (c .levels) (within-rows c h .levels) (lit< tt) row
   where
     row : (r : SecurityLevelConfig) → levelWithin r ≡ true → r .lockout < maxSpan
-    row r e = ltb-true (r .lockout) maxSpan (left (ltb (r .lockout) maxSpan) (leb (r .seedLength) 32) (left (ltb (r .lockout) maxSpan && leb (r .seedLength) 32) (leb (r .keyLength) 32) e))
+    row r e = ltb-true (r .lockout) maxSpan (left (ltb (r .lockout) maxSpan) (leb (r .seedLength) maxSeed) (left (ltb (r .lockout) maxSpan && leb (r .seedLength) maxSeed) (leb (r .keyLength) maxSeed) e))
 
 -- a time handed in plus a span is a moment that a state may hold
 pub later-valid : (now : Moment) (span : Span) → now ≤ maxTime → span < maxSpan → momentValid (now + span) ≡ true

@@ -50,6 +50,7 @@ pub record SecurityParts (k : Security) : Type 0 where
   pub failed : leb (length (k .failed)) maxLevels ≡ true
   pub locks : tableWithin maxLevels lockValid (k .locks) ≡ true
 
+-- a valid one has them
 security-parts : (k : Security) → securityValid k ≡ true → SecurityParts k
 unfolding securityValid
 security-parts k h = record { seed = left a b both-lengths; failed = right a b both-lengths; locks = right (a && b) c h }
@@ -66,6 +67,7 @@ security-parts k h = record { seed = left a b both-lengths; failed = right a b b
     both-lengths : (a && b) ≡ true
     both-lengths = left (a && b) c h
 
+-- one that has them is valid
 parts-security : {k : Security} → SecurityParts k → securityValid k ≡ true
 unfolding securityValid
 parts-security h = both (both (h .seed) (h .failed)) (h .locks)
@@ -74,6 +76,7 @@ parts-security h = both (both (h .seed) (h .failed)) (h .locks)
 pub cleared-parts : (k : Security) → securityValid k ≡ true → SecurityParts (cleared k)
 cleared-parts k h = let p = security-parts k h in record { seed = refl; failed = p .failed; locks = p .locks }
 
+-- so it stays valid
 pub cleared-valid : (k : Security) → securityValid k ≡ true → securityValid (cleared k) ≡ true
 cleared-valid k h = parts-security (cleared-parts k h)
 
@@ -87,6 +90,7 @@ on-outcome f p q (bytes b) = p b
 on-outcome f p q (error c) = q c
 
 module _ (v : Seen) (h : Sound v) where
+  -- the parts of the security record that is seen
   k : SecurityParts (v .security)
   k = security-parts (v .security) (h .security)
 
@@ -94,6 +98,7 @@ module _ (v : Seen) (h : Sound v) where
   pub says-fits : {r : Reply} → Fits (says v r)
   says-fits = record { lastRx = h .lastRx; security = h .security; periodic = h .periodic }
 
+  -- so every service that only replies
   only-fits : (a : Served) → Replies v a → FitsServed a
   only-fits a e = rw e says-fits
 
@@ -127,6 +132,7 @@ module _ (v : Seen) (h : Sound v) where
       go true e = let short = ltb-true (length b) maxSeed e in secures-fits (record { seed = le-leb (length b) maxSeed (omega arith); failed = k .failed; locks = k .locks })
       go false e = secures-fits (cleared-parts (v .security) (h .security))
 
+  -- whether the level is locked, unknown or asked its seed
   seedAsked-fits : (level : ℕ) → FitsServed (requestSeed v level)
   unfolding requestSeed seedAsked
   seedAsked-fits level = either FitsServed (locked (v .security) level (v .now)) says-fits (row (findLevel (v .config) level))
@@ -143,12 +149,13 @@ module _ (v : Seen) (h : Sound v) where
     periodic = h .periodic;
   }
 
-  -- refused: the counts and the locks keep their bounds, and a lock ends at now plus a span
+  -- refused at the most attempts: the locks keep their bound
   lockedOut-fits : (f : List Failed) → leb (length f) maxLevels ≡ true → (o : Option (List Lock)) → IfSome (λ l. tableWithin maxLevels lockValid l ≡ true) o → Fits (lockedOut v f o)
   unfolding lockedOut
   lockedOut-fits f n none l = secures-fits (record { seed = refl; failed = n; locks = k .locks })
   lockedOut-fits f n (some m) l = secures-fits (record { seed = refl; failed = n; locks = l })
 
+  -- refused: the counts keep theirs, and a lock ends at now plus a span
   denied-fits : (level : ℕ) (o : Option (List Failed)) → IfSome (λ f. leb (length f) maxLevels ≡ true) o → Fits (denied v level (findLevel (v .config) level) o)
   unfolding denied
   denied-fits level none n = secures-fits (cleared-parts (v .security) (h .security))
@@ -163,6 +170,7 @@ module _ (v : Seen) (h : Sound v) where
       good : momentValid until ≡ true
       good = later-valid (v .now) (lockoutOf (findLevel (v .config) level)) (h .now) (lockout-below (v .config) level (h .config))
 
+  -- a key sent, whatever comes of it
   sendKey-fits : (level : ℕ) → FitsServed (sendKey v level)
   unfolding sendKey judged
   sendKey-fits level =
@@ -176,6 +184,7 @@ module _ (v : Seen) (h : Sound v) where
       more : IfSome (λ f. leb (length f) maxLevels ≡ true) (incrementFailed level (v .security .failed))
       more = enter-length maxLevels (isFailed level) raise (record { level = level; count = 1 }) (v .security .failed) (k .failed)
 
+  -- 27 by its access type
   fits27 : FitsServed (service27 v)
   unfolding service27 securityAccess
   fits27 =
@@ -183,16 +192,18 @@ module _ (v : Seen) (h : Sound v) where
       (either FitsServed (eqb (subFunction (v .payload)) 0) says-fits
       (either FitsServed (eqb (subFunction (v .payload) % 2) 1) (seedAsked-fits (subFunction (v .payload))) (sendKey-fits (subFunction (v .payload) - 1))))
 
-  -- 2A: the table keeps its bound, and an entry's next moment is now plus its interval
+  -- 2A: another table of subscriptions that keeps its bound
   schedules-fits : {t : List Subscription} {r : Reply} → tableWithin maxPeriodic subscriptionValid t ≡ true → Fits (schedules v t r)
   schedules-fits e = record { lastRx = h .lastRx; security = h .security; periodic = e }
 
+  -- the three rates, and the larger of rate and minimum, are below 2^32
   rate-below : (mode : ℕ) → rateOf mode < maxSpan
   rate-below mode = either (λ n. n < maxSpan) (eqb mode 1) (lit< tt) (either (λ n. n < maxSpan) (eqb mode 2) (lit< tt) (lit< tt))
 
   interval-below : (mode x : ℕ) → intervalFor v (rateOf mode) x < maxSpan
   interval-below mode x = let a = rate-below mode in let b = minInterval-below (v .config) x (h .config) in omega arith
 
+  -- one subscription entered: its next moment is now plus its interval
   register-fits : (mode b : ℕ) (t : List Subscription) → tableWithin maxPeriodic subscriptionValid t ≡ true
       → IfSome (λ u. tableWithin maxPeriodic subscriptionValid u ≡ true) (register (periodicDid b) (v .src) (intervalFor v (rateOf mode) (periodicDid b)) (v .now) t)
   register-fits mode b t e =
@@ -205,6 +216,7 @@ module _ (v : Seen) (h : Sound v) where
       good : (ltb interval maxSpan && momentValid (v .now + interval)) ≡ true
       good = both (lt-ltb interval maxSpan (interval-below mode (periodicDid b))) (later-valid (v .now) interval (h .now) (interval-below mode (periodicDid b)))
 
+  -- the listed ones in turn, up to a refusal
   registerAll-fits : (mode : ℕ) (ids : List ℕ) (t : List Subscription) → tableWithin maxPeriodic subscriptionValid t ≡ true → Fits (registerAll v mode ids t)
   registerAll-fits mode [] t e = schedules-fits e
   registerAll-fits mode (b ∷ ids) t e =
@@ -217,6 +229,7 @@ module _ (v : Seen) (h : Sound v) where
       on none p f = schedules-fits e
       on (some u) p f = f u p
 
+  -- the listed ones cancelled
   cancelAll-within : (client : ℕ) (ids : List ℕ) (t : List Subscription) → tableWithin maxPeriodic subscriptionValid t ≡ true → tableWithin maxPeriodic subscriptionValid (cancelAll client ids t) ≡ true
   cancelAll-within client [] t e = e
   cancelAll-within client (b ∷ ids) t e = cancelAll-within client ids (without mine t) (both (le-leb (length (without mine t)) maxPeriodic fewer) (all-without subscriptionValid mine t (right (leb (length t) maxPeriodic) (all subscriptionValid t) e)))
@@ -227,6 +240,7 @@ module _ (v : Seen) (h : Sound v) where
       fewer : length (without mine t) ≤ maxPeriodic
       fewer = let a = length-without mine t in let b = leb-true (length t) maxPeriodic (left (leb (length t) maxPeriodic) (all subscriptionValid t) e) in omega arith
 
+  -- 2A by its mode
   fits2A : FitsServed (service2A v)
   unfolding service2A transmission
   fits2A =
