@@ -78,7 +78,9 @@ module _ (v : Seen) (g : Given) (t : Table) where
 
   act2A : SameAct (service2A w) (service2A v)
   unfolding service2A transmission
-  act2A = alike SameAct (ltb (length (v .payload)) 1) refl (alike SameAct (eqb (getD (v .payload) 0 0) 4) refl (alike SameAct (leb 1 (getD (v .payload) 0 0) && leb (getD (v .payload) 0 0) 3) refl refl))
+  act2A =
+      alike SameAct (ltb (length (v .payload)) 1) refl
+      (alike SameAct (eqb (getD (v .payload) 0 0) 4) refl (alike SameAct (leb 1 (getD (v .payload) 0 0) && leb (getD (v .payload) 0 0) 3) refl refl))
 
   -- the services that ask one where the payload is long enough
   act11 : SameAct (service11 w) (service11 v)
@@ -118,7 +120,8 @@ module _ (v : Seen) (g : Given) (t : Table) where
   unfolding service2E writeRow
   act2E =
       alike SameAct (leb 3 (length (v .payload)))
-      (alike SameAct (writable (v .session .sessionType) (findDid (v .config) (word (v .payload) 0))) (alike SameAct (heldFor (v .session .level) (findDid (v .config) (word (v .payload) 0))) refl refl) refl)
+      (alike SameAct (writable (v .session .sessionType) (findDid (v .config) (word (v .payload) 0)))
+      (alike SameAct (heldFor (v .session .level) (findDid (v .config) (word (v .payload) 0))) refl refl) refl)
       refl
 
   -- 27: a seed asked

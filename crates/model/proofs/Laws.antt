@@ -7,7 +7,7 @@ use mathlib.Core.Option.{Option, some, none}
 use native.Mathlib.Omega.{arith}
 use lib.ListN.{length, length-append}
 use lib.Dec.{leb, ltb, eqb}
-use borrow.Author.Tests.{ltb-true, le-leb, eqb-true}
+use borrow.Author.Tests.{ltb-true, leb-true, le-leb, eqb-true}
 use Rattle.model.specs.Tests.{pick, memb, all, any, first, changeFirst, without, enter}
 use Rattle.model.specs.Config.{tableWithin}
 
@@ -54,6 +54,18 @@ alike R false p q = q
 pub first-or : {A : Type 0} (P : Option A → Type 0) (p q : A → Bool) (l : List A) → all q l ≡ true → P none → ((a : A) → q a ≡ true → P (some a)) → P (first p l)
 first-or P p q [] h n f = n
 first-or P p q (a ∷ l) h n f = either P (p a) (f a (left (q a) (all q l) h)) (first-or P p q l (right (q a) (all q l) h) n f)
+
+-- a table that keeps the numbers has at most so many rows
+pub within-length : {A : Type 0} (most : ℕ) (q : A → Bool) (l : List A) → tableWithin most q l ≡ true → length l ≤ most
+within-length most q l h = leb-true (length l) most (left (leb (length l) most) (all q l) h)
+
+-- and every row passes
+pub within-all : {A : Type 0} (most : ℕ) (q : A → Bool) (l : List A) → tableWithin most q l ≡ true → all q l ≡ true
+within-all most q l h = right (leb (length l) most) (all q l) h
+
+-- and one with at most so many rows, of which every one passes, keeps them
+pub table-within : {A : Type 0} (most : ℕ) (q : A → Bool) (l : List A) → length l ≤ most → all q l ≡ true → tableWithin most q l ≡ true
+table-within most q l n h = both (le-leb (length l) most n) h
 
 -- a list with one changed is as long as it was
 pub length-changeFirst : {A : Type 0} (p : A → Bool) (f : A → A) (l : List A) → length (changeFirst p f l) ≡ length l
@@ -107,12 +119,11 @@ pub enter-within : {A : Type 0} (most : ℕ) (q p : A → Bool) (f : A → A) (n
     → ((a : A) → q a ≡ true → q (f a) ≡ true) → q new ≡ true → tableWithin most q l ≡ true
     → IfSome (λ m. tableWithin most q m ≡ true) (enter most p f new l)
 enter-within most q p f new l k n h =
-    let short = left (leb (length l) most) (all q l) h in
-    let good = right (leb (length l) most) (all q l) h in
-    let same : leb (length (changeFirst p f l)) most ≡ true = rw length-changeFirst short in
+    let short = within-length most q l h in
+    let good = within-all most q l h in
     enter-gives (λ m. tableWithin most q m ≡ true) most p f new l
-    (both same (all-changeFirst q p f l k good))
-    (λ r. both (le-leb (length (l ++ (new ∷ []))) most (rw length-append (omega arith))) (all-snoc q l new good n))
+    (table-within most q (changeFirst p f l) (rw length-changeFirst short) (all-changeFirst q p f l k good))
+    (λ r. table-within most q (l ++ (new ∷ [])) (rw length-append (omega arith)) (all-snoc q l new good n))
 
 -- a property of each of some numbers
 abbrev pub Each : (ℕ → Type 0) → List ℕ → Type 0

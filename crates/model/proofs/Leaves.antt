@@ -112,7 +112,9 @@ module _ (limit : ℕ) (s : State) (v : valid limit s ≡ true) where
     where
       go : (o : Option PendingRequest) → completed limit s payload o .result ≡ 1 → o ≡ none
       go none z = refl
-      go (some p) z = absurd (memb-never 1 (completed limit s payload (some p) .result) (0 ∷ 3 ∷ []) refl (confirmed-answered limit (withPending s none) (p .dst) (p .sid) payload .result) z)
+      go (some p) z =
+          absurd (memb-never 1 (completed limit s payload (some p) .result) (0 ∷ 3 ∷ []) refl
+          (confirmed-answered limit (withPending s none) (p .dst) (p .sid) payload .result) z)
 
   -- and leaves all unchanged
   pub complete-1-leaves : (now : Moment) (payload : List ℕ) → now ≤ maxTime → s .pending ≡ none → complete limit s now payload ≡ step 1 s
@@ -126,7 +128,9 @@ module _ (limit : ℕ) (s : State) (v : valid limit s ≡ true) where
     where
       go : (o : Option PendingRequest) → failed s code o .result ≡ 1 → o ≡ none
       go none z = refl
-      go (some p) z = absurd (memb-never 1 (failed s code (some p) .result) (0 ∷ 3 ∷ []) refl (queued-answered (withPending s none) (p .dst) (negativeFrame (p .sid) code) .result) z)
+      go (some p) z =
+          absurd (memb-never 1 (failed s code (some p) .result) (0 ∷ 3 ∷ []) refl
+          (queued-answered (withPending s none) (p .dst) (negativeFrame (p .sid) code) .result) z)
 
   -- which also leaves all unchanged
   pub fail-1-leaves : (now : Moment) (code : ℕ) → now ≤ maxTime → s .pending ≡ none → fail limit s now code ≡ step 1 s
@@ -181,7 +185,8 @@ module _ (limit : ℕ) (s : State) (v : valid limit s ≡ true) where
   unfolding drain
   drain-5 buffer = rw v (go (leb (length (records (s .queue))) (length buffer)) refl, λ h. rw (lt-leb (length (records (s .queue))) (length buffer) h) refl)
     where
-      go : (t : Bool) → leb (length (records (s .queue))) (length buffer) ≡ t → pick t (written s buffer) (unmoved 5 s buffer) .step .result ≡ 5 → length buffer < length (records (s .queue))
+      go : (t : Bool) → leb (length (records (s .queue))) (length buffer) ≡ t
+          → pick t (written s buffer) (unmoved 5 s buffer) .step .result ≡ 5 → length buffer < length (records (s .queue))
       go true e z = absurd (omega arith)
       go false e z = leb-false (length (records (s .queue))) (length buffer) e
 

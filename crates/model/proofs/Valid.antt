@@ -92,8 +92,12 @@ module _ (limit : ℕ) (room : 3 ≤ limit) where
   call-parts s (ticks now t) h =
       gated limit s now (λ (a : Ticked). a .step .state) (ticked limit s now t) (record { err = 0; step = step 6 s }) (record { err = 0; step = step 10 s }) h
       (λ k. ticked-valid limit now t k room s h) refl refl
-  call-parts s (completes now p) h = gated limit s now (λ (a : Step). a .state) (completed limit s p (s .pending)) (step 6 s) (step 10 s) h (λ k. completed-valid s p (s .pending) h) refl refl
-  call-parts s (fails now code) h = gated limit s now (λ (a : Step). a .state) (failed s code (s .pending)) (step 6 s) (step 10 s) h (λ k. failed-valid s code (s .pending) h) refl refl
+  call-parts s (completes now p) h =
+      gated limit s now (λ (a : Step). a .state) (completed limit s p (s .pending)) (step 6 s) (step 10 s) h
+      (λ k. completed-valid s p (s .pending) h) refl refl
+  call-parts s (fails now code) h =
+      gated limit s now (λ (a : Step). a .state) (failed s code (s .pending)) (step 6 s) (step 10 s) h
+      (λ k. failed-valid s code (s .pending) h) refl refl
   call-parts s (drains b) h = drained-valid s b h
 
   -- no call makes a valid state invalid

@@ -27,7 +27,8 @@ unfolding dueSent
 due-4 limit now a e b h = rw (lt-leb (suc (length b)) limit h) refl
 
 -- a value that fits meets 3 where 16 frames are held
-pub due-3 : (limit : ℕ) (now : Moment) (a : Passed) (e : Subscription) (b : List ℕ) → suc (length b) ≤ limit → maxOutbox ≤ length (a .queue) → dueSent limit now a e (bytes b) ≡ stopped a e 3 0
+pub due-3 : (limit : ℕ) (now : Moment) (a : Passed) (e : Subscription) (b : List ℕ) → suc (length b) ≤ limit → maxOutbox ≤ length (a .queue)
+    → dueSent limit now a e (bytes b) ≡ stopped a e 3 0
 unfolding dueSent
 due-3 limit now a e b h k = rw (le-leb (suc (length b)) limit h, le-ltb (length (a .queue)) maxOutbox k) refl
 

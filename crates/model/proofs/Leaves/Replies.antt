@@ -15,7 +15,9 @@ use Rattle.model.specs.Config.{findSession, p2ExtOf}
 use Rattle.model.specs.State.{Session, Security, Subscription, PendingRequest, State, Step, step, withQueue, withPending}
 use Rattle.model.specs.Reply.{Reply, silent, positive, negative, always, pends, queued, withheld, refused, confirmed, begun, replied}
 use Rattle.model.specs.Frame.{positiveFrame, negativeFrame}
-use Rattle.model.specs.Service.{Effect, changed, changedAfter, apply}
+use Rattle.model.specs.Values.{bytes}
+use Rattle.model.specs.Service.{Seen, Effect, changed, changedAfter, apply}
+use Rattle.model.specs.Service11.{reset}
 use Rattle.model.proofs.Laws.{either, Each, memb-each}
 
 -- where 16 frames are held, a frame to be queued meets 3 and leaves the state that it was given
@@ -28,7 +30,8 @@ pub queued-3 : (s : State) (to : ℕ) (b : List ℕ) → (queued s to b .result 
 unfolding queued
 queued-3 s to b = (go (ltb (length (s .queue)) maxOutbox) refl, λ h. rw (le-ltb (length (s .queue)) maxOutbox h))
   where
-    go : (t : Bool) → ltb (length (s .queue)) maxOutbox ≡ t → pick t (step 0 (withQueue s (s .queue ++ (record { dst = to; bytes = b } ∷ [])))) (step 3 s) .result ≡ 3 → maxOutbox ≤ length (s .queue)
+    go : (t : Bool) → ltb (length (s .queue)) maxOutbox ≡ t
+        → pick t (step 0 (withQueue s (s .queue ++ (record { dst = to; bytes = b } ∷ [])))) (step 3 s) .result ≡ 3 → maxOutbox ≤ length (s .queue)
     go true e z = absurd (omega arith)
     go false e z = ltb-false (length (s .queue)) maxOutbox e
 
@@ -44,7 +47,8 @@ queued-unmoved s to b z = ap (λ (p : Step). p .state) (queued-full s to b (queu
 pub confirmed-unmoved : (limit : ℕ) (s : State) (to sid : ℕ) (p : List ℕ) → Unmoved s (confirmed limit s to sid p)
 unfolding confirmed refused
 confirmed-unmoved limit s to sid p =
-    either (Unmoved s) (leb (suc (length p)) limit) (queued-unmoved s to (positiveFrame sid p)) (either (Unmoved s) (withheld (s .mode) 0x14) (λ z. refl) (queued-unmoved s to (negativeFrame sid 0x14)))
+    either (Unmoved s) (leb (suc (length p)) limit) (queued-unmoved s to (positiveFrame sid p))
+    (either (Unmoved s) (withheld (s .mode) 0x14) (λ z. refl) (queued-unmoved s to (negativeFrame sid 0x14)))
 
 -- 3 leaves the queue as it was, and 16 frames were held
 abbrev pub Full : State → Step → Type 0
@@ -154,3 +158,9 @@ apply-stays limit s to sid now e w = rw w (record { sessionIs = a .session; secu
   where
     a : Answered (changed s e) (replied limit (changed s e) to sid now (e .reply))
     a = replied-answered limit (changed s e) to sid now (e .reply)
+
+-- so where the answer to an ECU reset meets 3, the session, the level and the seed stay
+pub reset-3 : (limit : ℕ) (s : State) (v : Seen) (b : List ℕ) (to sid : ℕ) (now : Moment) → apply limit s to sid now (reset v (bytes b)) .result ≡ 3
+    → Holds (apply limit s to sid now (reset v (bytes b)) .state) (s .session) (s .security) (s .periodic)
+unfolding reset
+reset-3 limit s v b to sid now = apply-waits limit s to sid now (reset v (bytes b)) refl

@@ -98,7 +98,8 @@ unfolding failed
 failed-gives s code none = record { result = refl; full = λ z. absurd (omega arith) }
 failed-gives s code (some p) =
     wider (0 ∷ 3 ∷ []) (0 ∷ 1 ∷ 3 ∷ []) (refl, (refl, tt))
-    (answered-gives (pending-answered s none (queued (withPending s none) (p .dst) (negativeFrame (p .sid) code)) (queued-answered (withPending s none) (p .dst) (negativeFrame (p .sid) code))))
+    (answered-gives (pending-answered s none (queued (withPending s none) (p .dst) (negativeFrame (p .sid) code))
+    (queued-answered (withPending s none) (p .dst) (negativeFrame (p .sid) code))))
 
 -- a tick's pending step gives 0 or 3
 pub refreshed-answered : (s : State) (now : Moment) (o : Option PendingRequest) → Answered s (refreshed s now o)
@@ -160,7 +161,8 @@ unfolding call request question askedOf tick complete fail drain
 call-passing limit s (requests r) e h = rw (e, le-leb (r .inbound .time) maxTime h) (routed-gives limit s r (addressed (s .config) (r .inbound .dst)) .result)
 call-passing limit s (questions i) e h =
     rw (e, le-leb (i .time) maxTime h)
-    (memb-each (λ n. memb (pick (memb n (10 ∷ 6 ∷ 2 ∷ [])) n 0) (0 ∷ 2 ∷ []) ≡ true) (routed limit s (bare i) (addressed (s .config) (i .dst)) .step .result) (0 ∷ 2 ∷ 3 ∷ []) (refl, (refl, (refl, tt)))
+    (memb-each (λ n. memb (pick (memb n (10 ∷ 6 ∷ 2 ∷ [])) n 0) (0 ∷ 2 ∷ []) ≡ true)
+    (routed limit s (bare i) (addressed (s .config) (i .dst)) .step .result) (0 ∷ 2 ∷ 3 ∷ []) (refl, (refl, (refl, tt)))
     (routed-gives limit s (bare i) (addressed (s .config) (i .dst)) .result))
 call-passing limit s (ticks now t) e h = rw (e, le-leb now maxTime h) (ticked-result limit s now t)
 call-passing limit s (completes now payload) e h = rw (e, le-leb now maxTime h) (completed-gives limit s payload (s .pending) .result)

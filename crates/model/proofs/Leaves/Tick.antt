@@ -154,7 +154,8 @@ module _ (limit : ℕ) (s : State) (now : Moment) (t : Table) (v : valid limit s
 
   -- 8 is given only where a due entry's value is an error, with all before it clean, and comes with that error's byte
   pub tick-8-only : tick limit s now t .step .result ≡ 8
-      → (m : Met limit now t (awake s now .state .periodic) (start (awake s now .state)) 8 (tick limit s now t .err)) × (value limit t (m .entry .identifier) ≡ error (tick limit s now t .err))
+      → (m : Met limit now t (awake s now .state .periodic) (start (awake s now .state)) 8 (tick limit s now t .err))
+      × (value limit t (m .entry .identifier) ≡ error (tick limit s now t .err))
   tick-8-only e =
       let m = met-in 8 (λ z. omega arith) (λ z. omega arith) e in (
         m,

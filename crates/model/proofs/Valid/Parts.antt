@@ -3,23 +3,33 @@ use Prim.Native.Nat.{ℕ, _+_, _≤_, _<_}
 use mathlib.Core.Path.{_≡_}
 use mathlib.Core.Bool.{Bool, true, _&&_}
 use native.Mathlib.Omega.{arith}
+use mathlib.Core.List.{List}
 use lib.ListN.{length}
 use lib.Dec.{leb, ltb, lit<}
 use borrow.Author.Tests.{ltb-true, le-leb}
 use Rattle.model.specs.Tests.{all}
 use Rattle.model.specs.Numbers.{Moment, Span, maxTime, maxPeriodic, maxOutbox, maxSpan, maxSessions, maxServices, maxDids, maxLevels, maxListed, maxSeed}
 use Rattle.model.specs.Config.{Config, SessionConfig, DidConfig, SecurityLevelConfig, isSession, isDid, isLevel, findSession, findDid, findLevel, p2ExtOf, minIntervalOf, lockoutOf, sessionWithin, serviceWithin, didWithin, levelWithin, within, tableWithin}
-use Rattle.model.specs.State.{State, valid, momentValid, securityValid, subscriptionValid, pendingValid, frameValid}
-use Rattle.model.proofs.Laws.{both, left, right, first-or}
+use Rattle.model.specs.Frame.{Frame}
+use Rattle.model.specs.State.{Subscription, State, valid, momentValid, securityValid, subscriptionValid, pendingValid, frameValid}
+use Rattle.model.proofs.Laws.{both, left, right, first-or, within-all}
+
+-- a table of subscriptions keeps the numbers
+abbrev pub Subscribed : List Subscription → Type 0
+Subscribed t = tableWithin maxPeriodic subscriptionValid t ≡ true
+
+-- a queue keeps the numbers
+abbrev pub Queued : ℕ → List Frame → Type 0
+Queued limit q = tableWithin maxOutbox (frameValid limit) q ≡ true
 
 -- the six parts of a valid state
 pub record Valid (limit : ℕ) (s : State) : Type 0 where
   pub config : within (s .config) ≡ true
   pub lastRx : momentValid (s .session .lastRx) ≡ true
   pub security : securityValid (s .security) ≡ true
-  pub periodic : tableWithin maxPeriodic subscriptionValid (s .periodic) ≡ true
+  pub periodic : Subscribed (s .periodic)
   pub pending : pendingValid (s .pending) ≡ true
-  pub queue : tableWithin maxOutbox (frameValid limit) (s .queue) ≡ true
+  pub queue : Queued limit (s .queue)
 
 -- a state that has the six parts is valid
 pub parts-valid : (limit : ℕ) (s : State) → Valid limit s → valid limit s ≡ true
@@ -78,9 +88,9 @@ pub record Rows (c : Config) : Type 0 where
 pub within-rows : (c : Config) → within c ≡ true → Rows c
 unfolding within
 within-rows c h = record {
-  sessions = right (leb (length (c .sessions)) maxSessions) (all sessionWithin (c .sessions)) (left a b hb);
-  dids = right (leb (length (c .dids)) maxDids) (all didWithin (c .dids)) (right (a && b) d hd);
-  levels = right (leb (length (c .levels)) maxLevels) (all levelWithin (c .levels)) (right (a && b && d) e h);
+  sessions = within-all maxSessions sessionWithin (c .sessions) (left a b hb);
+  dids = within-all maxDids didWithin (c .dids) (right (a && b) d hd);
+  levels = within-all maxLevels levelWithin (c .levels) (right (a && b && d) e h);
 }
   where
     a : Bool
@@ -106,7 +116,9 @@ pub p2Ext-below : (c : Config) (x : ℕ) → within c ≡ true → p2ExtOf (find
 p2Ext-below c x h = first-or (λ o. p2ExtOf o < maxSpan) (isSession x) sessionWithin (c .sessions) (within-rows c h .sessions) (lit< tt) row
   where
     row : (r : SessionConfig) → sessionWithin r ≡ true → r .p2Ext < maxSpan
-    row r e = ltb-true (r .p2Ext) maxSpan (right (ltb (r .p2) maxSpan) (ltb (r .p2Ext) maxSpan) (left (ltb (r .p2) maxSpan && ltb (r .p2Ext) maxSpan) (ltb (r .s3) maxSpan) e))
+    row r e =
+        ltb-true (r .p2Ext) maxSpan (right (ltb (r .p2) maxSpan) (ltb (r .p2Ext) maxSpan)
+        (left (ltb (r .p2) maxSpan && ltb (r .p2Ext) maxSpan) (ltb (r .s3) maxSpan) e))
 
 -- so is the minimum interval of an identifier
 pub minInterval-below : (c : Config) (x : ℕ) → within c ≡ true → minIntervalOf (findDid c x) < maxSpan
@@ -120,7 +132,9 @@ pub lockout-below : (c : Config) (x : ℕ) → within c ≡ true → lockoutOf (
 lockout-below c x h = first-or (λ o. lockoutOf o < maxSpan) (isLevel x) levelWithin (c .levels) (within-rows c h .levels) (lit< tt) row
   where
     row : (r : SecurityLevelConfig) → levelWithin r ≡ true → r .lockout < maxSpan
-    row r e = ltb-true (r .lockout) maxSpan (left (ltb (r .lockout) maxSpan) (leb (r .seedLength) maxSeed) (left (ltb (r .lockout) maxSpan && leb (r .seedLength) maxSeed) (leb (r .keyLength) maxSeed) e))
+    row r e =
+        ltb-true (r .lockout) maxSpan (left (ltb (r .lockout) maxSpan) (leb (r .seedLength) maxSeed)
+        (left (ltb (r .lockout) maxSpan && leb (r .seedLength) maxSeed) (leb (r .keyLength) maxSeed) e))
 
 -- a time handed in plus a span is a moment that a state may hold
 pub later-valid : (now : Moment) (span : Span) → now ≤ maxTime → span < maxSpan → momentValid (now + span) ≡ true

@@ -8,25 +8,24 @@ use native.Mathlib.Omega.{arith}
 use lib.ListN.{length, length-append}
 use lib.Dec.{leb, ltb, eqb}
 use borrow.Author.Tests.{ltb-true, leb-true, le-leb}
-use Rattle.model.specs.Tests.{pick, all}
-use Rattle.model.specs.Numbers.{Moment, maxOutbox, maxTime, maxPeriodic}
-use Rattle.model.specs.Config.{findSession, p2ExtOf, tableWithin}
+use Rattle.model.specs.Tests.{pick}
+use Rattle.model.specs.Numbers.{Moment, maxOutbox, maxTime}
+use Rattle.model.specs.Config.{findSession, p2ExtOf}
 use Rattle.model.specs.Frame.{Frame, positiveFrame, negativeFrame}
-use Rattle.model.specs.State.{PendingRequest, State, Step, step, momentValid, securityValid, subscriptionValid, pendingValid, frameValid, withQueue, withPending}
+use Rattle.model.specs.State.{PendingRequest, State, Step, step, momentValid, securityValid, pendingValid, frameValid, withQueue, withPending}
 use Rattle.model.specs.Reply.{Reply, silent, positive, negative, always, pends, queued, withheld, refused, confirmed, begun, replied}
 use Rattle.model.specs.Service.{Effect, changed, changedAfter, apply}
-use Rattle.model.proofs.Laws.{both, right, either, all-snoc}
-use Rattle.model.proofs.Valid.Parts.{Valid, p2Ext-below, later-valid}
+use Rattle.model.proofs.Laws.{both, either, all-snoc, within-all, table-within}
+use Rattle.model.proofs.Valid.Parts.{Subscribed, Queued, Valid, p2Ext-below, later-valid}
 
 -- the state that a step leaves is valid
 abbrev pub ValidStep : ℕ → Step → Type 0
 ValidStep limit p = Valid limit (p .state)
 
 -- frames that keep the numbers, and one more where there is room
-pub frames-snoc : (limit : ℕ) (q : List Frame) (f : Frame) → tableWithin maxOutbox (frameValid limit) q ≡ true → frameValid limit f ≡ true → length q < maxOutbox
-    → tableWithin maxOutbox (frameValid limit) (q ++ (f ∷ [])) ≡ true
+pub frames-snoc : (limit : ℕ) (q : List Frame) (f : Frame) → Queued limit q → frameValid limit f ≡ true → length q < maxOutbox → Queued limit (q ++ (f ∷ []))
 frames-snoc limit q f h e r =
-    both (le-leb (length (q ++ (f ∷ []))) maxOutbox (rw length-append (omega arith))) (all-snoc (frameValid limit) q f (right (leb (length q) maxOutbox) (all (frameValid limit) q) h) e)
+    table-within maxOutbox (frameValid limit) (q ++ (f ∷ [])) (rw length-append (omega arith)) (all-snoc (frameValid limit) q f (within-all maxOutbox (frameValid limit) q h) e)
 
 -- another pending request, or none
 pub pending-valid : {limit : ℕ} {s : State} {p : Option PendingRequest} → Valid limit s → pendingValid p ≡ true → Valid limit (withPending s p)
@@ -55,7 +54,7 @@ queued-valid limit s to b h low high = go (ltb (length (s .queue)) maxOutbox) re
 pub record Fits (e : Effect) : Type 0 where
   pub lastRx : momentValid (e .session .lastRx) ≡ true
   pub security : securityValid (e .security) ≡ true
-  pub periodic : tableWithin maxPeriodic subscriptionValid (e .periodic) ≡ true
+  pub periodic : Subscribed (e .periodic)
 
 -- such records taken into a state
 pub changed-valid : {limit : ℕ} {s : State} {e : Effect} → Valid limit s → Fits e → Valid limit (changed s e)
@@ -84,7 +83,8 @@ module _ (limit : ℕ) (room : 3 ≤ limit) where
   pub begun-valid : (s : State) (to sid : ℕ) (now : Moment) → now ≤ maxTime → Valid limit s → ValidStep limit (begun s to sid now)
   unfolding begun
   begun-valid s to sid now t h =
-      negative-valid to sid 0x78 (pending-valid h (later-valid now (p2ExtOf (findSession (s .config) (s .session .sessionType))) t (p2Ext-below (s .config) (s .session .sessionType) (h .config))))
+      let span = p2Ext-below (s .config) (s .session .sessionType) (h .config) in
+      negative-valid to sid 0x78 (pending-valid h (later-valid now (p2ExtOf (findSession (s .config) (s .session .sessionType))) t span))
 
   -- any reply
   pub replied-valid : (s : State) (to sid : ℕ) (now : Moment) (r : Reply) → now ≤ maxTime → Valid limit s → ValidStep limit (replied limit s to sid now r)

@@ -7,8 +7,8 @@ use mathlib.Core.Option.{Option, some, none}
 use native.Mathlib.Omega.{arith}
 use lib.ListN.{length, getD, drop}
 use lib.Dec.{leb, ltb, eqb, lit<}
-use borrow.Author.Tests.{ltb-true, leb-true, lt-ltb, le-leb}
-use Rattle.model.specs.Tests.{pick, all, without}
+use borrow.Author.Tests.{ltb-true, lt-ltb, le-leb}
+use Rattle.model.specs.Tests.{pick, without}
 use Rattle.model.specs.Numbers.{Moment, Span, maxTime, maxSpan, maxPeriodic, maxLevels, maxSeed}
 use Rattle.model.specs.Config.{SessionConfig, ServiceConfig, SecurityLevelConfig, within, tableWithin, findSession, findDid, findLevel, lockoutOf, maxAttemptsOf, readable, allowedIn}
 use Rattle.model.specs.Values.{Outcome, bytes, error, outcome}
@@ -31,8 +31,8 @@ use Rattle.model.specs.Service36.{service36}
 use Rattle.model.specs.Service37.{service37}
 use Rattle.model.specs.Service38.{service38}
 use Rattle.model.specs.Request.{service, guarded}
-use Rattle.model.proofs.Laws.{both, left, right, either, IfSome, enter-length, enter-within, length-changeFirst, length-without, all-without}
-use Rattle.model.proofs.Valid.Parts.{minInterval-below, lockout-below, later-valid}
+use Rattle.model.proofs.Laws.{both, left, right, either, IfSome, enter-length, enter-within, length-changeFirst, length-without, all-without, within-length, within-all, table-within}
+use Rattle.model.proofs.Valid.Parts.{Subscribed, minInterval-below, lockout-below, later-valid}
 use Rattle.model.proofs.Valid.Replies.{Fits}
 use Rattle.model.proofs.Valid.Only.{Replies, only3E, only22, only2E, only31, only28, only2F, only34, only36, only37, only38}
 
@@ -41,7 +41,7 @@ pub record Sound (v : Seen) : Type 0 where
   pub config : within (v .config) ≡ true
   pub lastRx : momentValid (v .session .lastRx) ≡ true
   pub security : securityValid (v .security) ≡ true
-  pub periodic : tableWithin maxPeriodic subscriptionValid (v .periodic) ≡ true
+  pub periodic : Subscribed (v .periodic)
   pub now : v .now ≤ maxTime
 
 -- a security record by its parts
@@ -120,7 +120,8 @@ module _ (v : Seen) (h : Sound v) where
   unfolding service11 reset
   fits11 =
       either FitsServed (ltb (length (v .payload)) 1) says-fits
-      (on-outcome (reset v) (λ b. record { lastRx = h .lastRx; security = cleared-valid (v .security) (h .security); periodic = h .periodic }) (λ c. says-fits) (outcome (v .limit) (v .given)))
+      (on-outcome (reset v) (λ b. record { lastRx = h .lastRx; security = cleared-valid (v .security) (h .security); periodic = h .periodic })
+      (λ c. says-fits) (outcome (v .limit) (v .given)))
 
   -- 27, odd: a seed that is kept is shorter than 32
   seed-fits : (level : ℕ) (row : SecurityLevelConfig) (o : Outcome) → Fits (seedGiven v level row o)
@@ -161,7 +162,8 @@ module _ (v : Seen) (h : Sound v) where
   denied-fits level none n = secures-fits (cleared-parts (v .security) (h .security))
   denied-fits level (some f) n =
       either Fits (leb (maxAttemptsOf (findLevel (v .config) level)) (failedCount level f))
-      (lockedOut-fits f n (setLockout level until (v .security .locks)) (enter-within maxLevels lockValid (isLock level) (relock until) (record { level = level; until = until }) (v .security .locks) (λ a e. good) good (k .locks)))
+      (lockedOut-fits f n (setLockout level until (v .security .locks))
+      (enter-within maxLevels lockValid (isLock level) (relock until) (record { level = level; until = until }) (v .security .locks) (λ a e. good) good (k .locks)))
       (secures-fits (record { seed = refl; failed = n; locks = k .locks }))
     where
       until : Moment
@@ -193,7 +195,7 @@ module _ (v : Seen) (h : Sound v) where
       (either FitsServed (eqb (subFunction (v .payload) % 2) 1) (seedAsked-fits (subFunction (v .payload))) (sendKey-fits (subFunction (v .payload) - 1))))
 
   -- 2A: another table of subscriptions that keeps its bound
-  schedules-fits : {t : List Subscription} {r : Reply} → tableWithin maxPeriodic subscriptionValid t ≡ true → Fits (schedules v t r)
+  schedules-fits : {t : List Subscription} {r : Reply} → Subscribed t → Fits (schedules v t r)
   schedules-fits e = record { lastRx = h .lastRx; security = h .security; periodic = e }
 
   -- the three rates, and the larger of rate and minimum, are below 2^32
@@ -204,8 +206,8 @@ module _ (v : Seen) (h : Sound v) where
   interval-below mode x = let a = rate-below mode in let b = minInterval-below (v .config) x (h .config) in omega arith
 
   -- one subscription entered: its next moment is now plus its interval
-  register-fits : (mode b : ℕ) (t : List Subscription) → tableWithin maxPeriodic subscriptionValid t ≡ true
-      → IfSome (λ u. tableWithin maxPeriodic subscriptionValid u ≡ true) (register (periodicDid b) (v .src) (intervalFor v (rateOf mode) (periodicDid b)) (v .now) t)
+  register-fits : (mode b : ℕ) (t : List Subscription) → Subscribed t
+      → IfSome Subscribed (register (periodicDid b) (v .src) (intervalFor v (rateOf mode) (periodicDid b)) (v .now) t)
   register-fits mode b t e =
       enter-within maxPeriodic subscriptionValid (isSubscription (periodicDid b) (v .src)) (renewed interval (v .now)) (subscription (periodicDid b) (v .src) interval (v .now)) t
       (λ a p. good) good e
@@ -217,28 +219,30 @@ module _ (v : Seen) (h : Sound v) where
       good = both (lt-ltb interval maxSpan (interval-below mode (periodicDid b))) (later-valid (v .now) interval (h .now) (interval-below mode (periodicDid b)))
 
   -- the listed ones in turn, up to a refusal
-  registerAll-fits : (mode : ℕ) (ids : List ℕ) (t : List Subscription) → tableWithin maxPeriodic subscriptionValid t ≡ true → Fits (registerAll v mode ids t)
+  registerAll-fits : (mode : ℕ) (ids : List ℕ) (t : List Subscription) → Subscribed t → Fits (registerAll v mode ids t)
   registerAll-fits mode [] t e = schedules-fits e
   registerAll-fits mode (b ∷ ids) t e =
       either Fits (readable (v .session .sessionType) (findDid (v .config) (periodicDid b)))
       (on (register (periodicDid b) (v .src) (intervalFor v (rateOf mode) (periodicDid b)) (v .now) t) (register-fits mode b t e) (registerAll-fits mode ids))
       (schedules-fits e)
     where
-      on : (o : Option (List Subscription)) → IfSome (λ u. tableWithin maxPeriodic subscriptionValid u ≡ true) o
-          → ((u : List Subscription) → tableWithin maxPeriodic subscriptionValid u ≡ true → Fits (registerAll v mode ids u)) → Fits (registered v t o (registerAll v mode ids))
+      on : (o : Option (List Subscription)) → IfSome Subscribed o
+          → ((u : List Subscription) → Subscribed u → Fits (registerAll v mode ids u)) → Fits (registered v t o (registerAll v mode ids))
       on none p f = schedules-fits e
       on (some u) p f = f u p
 
   -- the listed ones cancelled
-  cancelAll-within : (client : ℕ) (ids : List ℕ) (t : List Subscription) → tableWithin maxPeriodic subscriptionValid t ≡ true → tableWithin maxPeriodic subscriptionValid (cancelAll client ids t) ≡ true
+  cancelAll-within : (client : ℕ) (ids : List ℕ) (t : List Subscription) → Subscribed t → Subscribed (cancelAll client ids t)
   cancelAll-within client [] t e = e
-  cancelAll-within client (b ∷ ids) t e = cancelAll-within client ids (without mine t) (both (le-leb (length (without mine t)) maxPeriodic fewer) (all-without subscriptionValid mine t (right (leb (length t) maxPeriodic) (all subscriptionValid t) e)))
+  cancelAll-within client (b ∷ ids) t e =
+      cancelAll-within client ids (without mine t)
+      (table-within maxPeriodic subscriptionValid (without mine t) fewer (all-without subscriptionValid mine t (within-all maxPeriodic subscriptionValid t e)))
     where
       mine : Subscription → Bool
       mine = isSubscription (periodicDid b) client
 
       fewer : length (without mine t) ≤ maxPeriodic
-      fewer = let a = length-without mine t in let b = leb-true (length t) maxPeriodic (left (leb (length t) maxPeriodic) (all subscriptionValid t) e) in omega arith
+      fewer = let a = length-without mine t in let b = within-length maxPeriodic subscriptionValid t e in omega arith
 
   -- 2A by its mode
   fits2A : FitsServed (service2A v)

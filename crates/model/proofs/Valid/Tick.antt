@@ -10,14 +10,13 @@ use lib.Dec.{leb, ltb, eqb}
 use borrow.Author.Tests.{ltb-true, leb-true, le-leb}
 use Rattle.model.specs.Tests.{pick, all}
 use Rattle.model.specs.Numbers.{Moment, maxOutbox, maxTime, maxSpan, maxPeriodic}
-use Rattle.model.specs.Config.{tableWithin}
 use Rattle.model.specs.Values.{Outcome, bytes, error, Table, value}
 use Rattle.model.specs.Frame.{Frame}
-use Rattle.model.specs.State.{Subscription, PendingRequest, State, Step, momentValid, subscriptionValid, frameValid}
+use Rattle.model.specs.State.{Subscription, PendingRequest, State, Step, momentValid, subscriptionValid}
 use Rattle.model.specs.Tick.{expired, s3, refreshed, Passed, stopped, advanced, sent, dueSent, passOne, passAll, Ticked, dispatched, periodic, thenPeriodic, ticked}
-use Rattle.model.proofs.Laws.{both, left, right, either, all-snoc}
+use Rattle.model.proofs.Laws.{both, left, right, either, all-snoc, within-length, within-all, table-within}
 use Rattle.model.specs.Reply.{begun}
-use Rattle.model.proofs.Valid.Parts.{Valid, later-valid}
+use Rattle.model.proofs.Valid.Parts.{Queued, Valid, later-valid}
 use Rattle.model.proofs.Valid.Replies.{ValidStep, frames-snoc, begun-valid}
 use Rattle.model.proofs.Valid.Services.{cleared-valid}
 
@@ -25,7 +24,7 @@ use Rattle.model.proofs.Valid.Services.{cleared-valid}
 pub record Standing (limit : ℕ) (rest : List Subscription) (a : Passed) : Type 0 where
   pub entries : all subscriptionValid (a .entries) ≡ true
   pub size : length (a .entries) + length rest ≤ maxPeriodic
-  pub queue : tableWithin maxOutbox (frameValid limit) (a .queue) ≡ true
+  pub queue : Queued limit (a .queue)
 
 -- a subscription sent at a time that is handed in is as good as it was
 advanced-valid : (now : Moment) (e : Subscription) → now ≤ maxTime → subscriptionValid e ≡ true → subscriptionValid (advanced now e) ≡ true
@@ -35,7 +34,7 @@ advanced-valid now e t h =
 module _ (limit : ℕ) (now : Moment) (t : Table) (time : now ≤ maxTime) where
   -- an entry that passes, as it stands or changed, and a queue
   passed-on : (rest : List Subscription) (a : Passed) (e f : Subscription) (n err : ℕ) (q : List Frame)
-      → Standing limit (e ∷ rest) a → subscriptionValid f ≡ true → tableWithin maxOutbox (frameValid limit) q ≡ true
+      → Standing limit (e ∷ rest) a → subscriptionValid f ≡ true → Queued limit q
       → Standing limit rest (record { result = n; err = err; entries = a .entries ++ (f ∷ []); queue = q })
   passed-on rest a e f n err q h g k = record {
     entries = all-snoc subscriptionValid (a .entries) f (h .entries) g;
@@ -44,7 +43,8 @@ module _ (limit : ℕ) (now : Moment) (t : Table) (time : now ≤ maxTime) where
   }
 
   -- a due entry
-  due-stands : (rest : List Subscription) (a : Passed) (e : Subscription) (o : Outcome) → Standing limit (e ∷ rest) a → subscriptionValid e ≡ true → Standing limit rest (dueSent limit now a e o)
+  due-stands : (rest : List Subscription) (a : Passed) (e : Subscription) (o : Outcome) → Standing limit (e ∷ rest) a → subscriptionValid e ≡ true
+      → Standing limit rest (dueSent limit now a e o)
   unfolding dueSent
   due-stands rest a e (error code) h g = passed-on rest a e e 8 code (a .queue) h g (h .queue)
   due-stands rest a e (bytes b) h g = long (leb (suc (length b)) limit) refl
@@ -52,7 +52,8 @@ module _ (limit : ℕ) (now : Moment) (t : Table) (time : now ≤ maxTime) where
       full : (u : Bool) → ltb (length (a .queue)) maxOutbox ≡ u → suc (length b) ≤ limit → Standing limit rest (pick u (sent a now e b) (stopped a e 3 0))
       full true r l =
           passed-on rest a e (advanced now e) (a .result) (a .err) (sent a now e b .queue) h (advanced-valid now e time g)
-          (frames-snoc limit (a .queue) (record { dst = e .client; bytes = e .identifier % 256 ∷ b }) (h .queue) (both (le-leb 1 (suc (length b)) (omega arith)) (le-leb (suc (length b)) limit l)) (ltb-true (length (a .queue)) maxOutbox r))
+          (frames-snoc limit (a .queue) (record { dst = e .client; bytes = e .identifier % 256 ∷ b }) (h .queue)
+          (both (le-leb 1 (suc (length b)) (omega arith)) (le-leb (suc (length b)) limit l)) (ltb-true (length (a .queue)) maxOutbox r))
       full false r l = passed-on rest a e e 3 0 (a .queue) h g (h .queue)
 
       long : (u : Bool) → leb (suc (length b)) limit ≡ u → Standing limit rest (pick u (pick (ltb (length (a .queue)) maxOutbox) (sent a now e b) (stopped a e 3 0)) (stopped a e 4 0))
@@ -63,7 +64,8 @@ module _ (limit : ℕ) (now : Moment) (t : Table) (time : now ≤ maxTime) where
   one-stands : (rest : List Subscription) (a : Passed) (e : Subscription) → Standing limit (e ∷ rest) a → subscriptionValid e ≡ true → Standing limit rest (passOne limit now t a e)
   unfolding passOne
   one-stands rest a e h g =
-      either (Standing limit rest) (eqb (a .result) 0 && leb (e .next) now) (due-stands rest a e (value limit t (e .identifier)) h g) (passed-on rest a e e (a .result) (a .err) (a .queue) h g (h .queue))
+      either (Standing limit rest) (eqb (a .result) 0 && leb (e .next) now) (due-stands rest a e (value limit t (e .identifier)) h g)
+      (passed-on rest a e e (a .result) (a .err) (a .queue) h g (h .queue))
 
   -- all of them
   all-stand : (es : List Subscription) (a : Passed) → Standing limit es a → all subscriptionValid es ≡ true → Standing limit [] (passAll limit now t es a)
@@ -78,7 +80,7 @@ module _ (limit : ℕ) (now : Moment) (t : Table) (time : now ≤ maxTime) where
     config = h .config;
     lastRx = h .lastRx;
     security = h .security;
-    periodic = let n = end .size in both (le-leb (length (passed .entries)) maxPeriodic (omega arith)) (end .entries);
+    periodic = let n = end .size in table-within maxPeriodic subscriptionValid (passed .entries) (omega arith) (end .entries);
     pending = h .pending;
     queue = end .queue;
   }
@@ -92,8 +94,8 @@ module _ (limit : ℕ) (now : Moment) (t : Table) (time : now ≤ maxTime) where
       end : Standing limit [] passed
       end =
           all-stand (s .periodic) start
-          (record { entries = refl; size = let n = leb-true (length (s .periodic)) maxPeriodic (left (leb (length (s .periodic)) maxPeriodic) (all subscriptionValid (s .periodic)) (h .periodic)) in omega arith; queue = h .queue })
-          (right (leb (length (s .periodic)) maxPeriodic) (all subscriptionValid (s .periodic)) (h .periodic))
+          (record { entries = refl; size = let n = within-length maxPeriodic subscriptionValid (s .periodic) (h .periodic) in omega arith; queue = h .queue })
+          (within-all maxPeriodic subscriptionValid (s .periodic) (h .periodic))
 
   module _ (room : 3 ≤ limit) where
     -- S3
