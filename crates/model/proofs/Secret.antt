@@ -1,0 +1,58 @@
+-- What is behind the key: a value is read only where its level is held, so no answer depends on one that is kept out.
+use Prim.Native.Nat.{ℕ, _+_, _*_, _-_, _≤_, _<_, min}
+use mathlib.Core.Path.{_≡_, refl, ap, sym, _∙_}
+use mathlib.Core.Bool.{Bool, true, false, _&&_}
+use mathlib.Core.List.{List, [], _∷_, _++_, List·Memᴰ, List·Memᴰ·head, List·Memᴰ·tail}
+use mathlib.Core.Option.{Option, some, none, Option·none-ne-some}
+use native.Mathlib.Omega.{arith}
+use native.Mathlib.Decide.{ℕ-discrete}
+use lib.ListN.{length, take, drop, getD, length-take, length-drop}
+use lib.Seq.{ext-getD, getD-take, getD-drop}
+use lib.Dec.{eqb, leb}
+use borrow.Author.Tests.{eqb-true, ne-eqb, lt-leb, leb-true}
+use Rattle.model.specs.Tests.{pick, first}
+use Rattle.model.specs.Values.{Outcome, bytes, error, ValueRow, Table, isValue, lies, rowValue, value}
+use Rattle.model.specs.Alike.{Points, OnlyOf, AlikeRows, AlikeTable}
+use Rattle.model.proofs.Laws.{left, right}
+
+-- the first that passes stands in the list, and passes
+pub first-in : {A : Type 0} (p : A → Bool) (l : List A) (a : A) → first p l ≡ some a → List·Memᴰ a l × (p a ≡ true)
+first-in p [] a e = absurd (Option·none-ne-some a e)
+first-in p (b ∷ l) a e = go (first-in p l a) (p b) refl e
+  where
+    go : (first p l ≡ some a → List·Memᴰ a l × (p a ≡ true)) → (t : Bool) → p b ≡ t → pick t (some b) (first p l) ≡ some a → List·Memᴰ a (b ∷ l) × (p a ≡ true)
+    go k true h f = let g : b ≡ a = cc in (List·Memᴰ·head (sym g), rw (← g) h)
+    go k false h f = (List·Memᴰ·tail (k f .0), k f .1)
+
+-- another identifier's first row is the same in both
+rows-alike : (x y : ℕ) {l m : List ValueRow} → (y ≡ x → ⊥) → AlikeRows x l m → first (isValue y) l ≡ first (isValue y) m
+rows-alike x y n AlikeRows.none = refl
+rows-alike x y n (AlikeRows.same r) = rw (rows-alike x y n r)
+rows-alike x y n (AlikeRows.its {r = r} {q = q} a b k) =
+    let f : r .identifier ≡ y → ⊥ = λ u. n (sym u ∙ a) in
+    let g : q .identifier ≡ y → ⊥ = λ u. n (sym u ∙ b) in
+    rw (ne-eqb _ _ f, ne-eqb _ _ g) (rows-alike x y n k)
+
+-- a row's bytes are the same in both pools where each byte that it points at is
+part-alike : (r : ValueRow) (p q : List ℕ) → length p ≡ length q → ((k : ℕ) → Points r k → getD p k 0 ≡ getD q k 0) → take (r .len) (drop (r .start) p) ≡ take (r .len) (drop (r .start) q)
+part-alike r p q l h =
+    ext-getD 0 (take (r .len) (drop (r .start) p)) (take (r .len) (drop (r .start) q)) (simp (length-take, length-drop) (rw l)) go
+  where
+    go : (i : ℕ) → i < length (take (r .len) (drop (r .start) p)) → getD (take (r .len) (drop (r .start) p)) i 0 ≡ getD (take (r .len) (drop (r .start) q)) i 0
+    go i h1 =
+        let b : i < r .len = omega (arith, length-take (r .len) (drop (r .start) p)) in
+        simp (getD-take, getD-drop) (h (r .start + i) (record { low = omega arith; high = omega arith }))
+
+row-alike : (limit : ℕ) (o : Option ValueRow) (p q : List ℕ) → length p ≡ length q → ((r : ValueRow) → o ≡ some r → (k : ℕ) → Points r k → getD p k 0 ≡ getD q k 0) → rowValue limit p o ≡ rowValue limit q o
+unfolding rowValue
+row-alike limit none p q l h = refl
+row-alike limit (some r) p q l h = rw (l, part-alike r p q l (h r refl))
+
+-- what the tables say of another identifier is the same
+pub value-alike : (limit x y : ℕ) (t u : Table) → (y ≡ x → ⊥) → AlikeTable x t u → value limit t y ≡ value limit u y
+value-alike limit x y t u n a = rw (← rows-alike x y n (a .rows)) (row-alike limit (first (isValue y) (t .rows)) (t .pool) (u .pool) (a .pools) go)
+  where
+    go : (r : ValueRow) → first (isValue y) (t .rows) ≡ some r → (k : ℕ) → Points r k → getD (t .pool) k 0 ≡ getD (u .pool) k 0
+    go r e k h =
+        let f = first-in (isValue y) (t .rows) r e in
+        elim (ℕ-discrete (getD (t .pool) k 0) (getD (u .pool) k 0)) [ yes z ↦ z | no z ↦ absurd (n (sym (eqb-true _ _ (f .1)) ∙ a .bytes k z .0 r (f .0) h)) ]
