@@ -1,13 +1,13 @@
 -- Every service but 22 is blind to the value table, and 27 to all of the key but its length.
-use Prim.Native.Nat.{ℕ, _+_, _-_, _%_}
-use mathlib.Core.Path.{_≡_, refl, ap}
+use Prim.Native.Nat.{ℕ, _+_, _-_}
+use mathlib.Core.Path.{_≡_, refl}
 use mathlib.Core.List.{List, [], _∷_}
 use mathlib.Core.Option.{Option, some, none}
 use lib.ListN.{length, drop, getD}
 use Rattle.model.specs.Numbers.{maxDownload}
-use Rattle.model.specs.Config.{SessionConfig, SecurityLevelConfig, findSession, findLevel, findDid, lockoutOf}
+use Rattle.model.specs.Config.{SessionConfig, SecurityLevelConfig, findSession, findLevel, lockoutOf}
 use Rattle.model.specs.Values.{Outcome, bytes, error, Table, outcome}
-use Rattle.model.specs.Frame.{subFunction, periodicDid, word}
+use Rattle.model.specs.Frame.{subFunction, periodicDid}
 use Rattle.model.specs.State.{Subscription, Failed, Lock}
 use Rattle.model.specs.Reply.{Reply, positive}
 use Rattle.model.specs.Service.{Seen, acted}

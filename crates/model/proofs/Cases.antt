@@ -1,17 +1,16 @@
 -- Both sides of the line: twelve cases as one table under one theorem, and the worked trace, by computation.
 use Prim.Native.Nat.{ℕ, zero, suc}
 use mathlib.Core.Path.{_≡_, refl}
-use mathlib.Core.List.{List, [], _∷_, _++_, map}
-use mathlib.Core.Option.{Option, some, none}
+use mathlib.Core.List.{List, [], _∷_, map}
+use mathlib.Core.Option.{some, none}
 use lib.ListN.{replicate}
 use Rattle.model.specs.Numbers.{maxFrame}
-use Rattle.model.specs.Config.{Config, SecurityLevelConfig}
+use Rattle.model.specs.Config.{Config}
 use Rattle.model.specs.Values.{Given, given0, emptyTable}
 use Rattle.model.specs.Frame.{Frame}
-use Rattle.model.specs.State.{physical, Session, Security, Subscription, PendingRequest, State, freshSession, freshSecurity, freshState}
+use Rattle.model.specs.State.{physical, Security, Subscription, PendingRequest, State, freshSession, freshSecurity, freshState}
 use Rattle.model.specs.Service.{noAct}
-use Rattle.model.specs.Request.{Inbound}
-use Rattle.model.specs.History.{Call, requests, ticks, drains, Shown, Done, call, run, shows}
+use Rattle.model.specs.History.{Call, requests, ticks, drains, Shown, Done, call, shows}
 use Rattle.model.specs.Fixed.{fixedConfig}
 use Rattle.model.proofs.Open.{whole}
 

@@ -1,19 +1,22 @@
 -- What is behind the key: a value is read only where its level is held, so no answer depends on one that is kept out.
-use Prim.Native.Nat.{ℕ, _+_, _*_, _-_, _≤_, _<_, min}
+use Prim.Native.Nat.{ℕ, _+_, _*_, _<_}
 use mathlib.Core.Path.{_≡_, refl, ap, sym, _∙_}
-use mathlib.Core.Bool.{Bool, true, false, _&&_}
-use mathlib.Core.List.{List, [], _∷_, _++_, List·Memᴰ, List·Memᴰ·head, List·Memᴰ·tail}
+use mathlib.Core.Bool.{Bool, true, false}
+use mathlib.Core.List.{List, [], _∷_, List·Memᴰ, List·Memᴰ·head, List·Memᴰ·tail}
 use mathlib.Core.Option.{Option, some, none, Option·none-ne-some}
 use native.Mathlib.Omega.{arith}
 use native.Mathlib.Decide.{ℕ-discrete}
 use lib.ListN.{length, take, drop, getD, length-take, length-drop}
 use lib.Seq.{ext-getD, getD-take, getD-drop}
-use lib.Dec.{eqb, leb}
-use borrow.Author.Tests.{eqb-true, ne-eqb, lt-leb, leb-true}
+use borrow.Author.Tests.{eqb-true, ne-eqb, lt-leb}
 use Rattle.model.specs.Tests.{pick, first}
-use Rattle.model.specs.Values.{Outcome, bytes, error, ValueRow, Table, isValue, lies, rowValue, value}
-use Rattle.model.specs.Alike.{Points, OnlyOf, AlikeRows, AlikeTable}
-use Rattle.model.proofs.Laws.{left, right}
+use Rattle.model.specs.Values.{bytes, ValueRow, Table, isValue, rowValue, value}
+use Rattle.model.specs.Config.{DidConfig, findDid, levelOf}
+use Rattle.model.specs.Service.{Seen}
+use Rattle.model.specs.Service22.{Reading, going, ended, onward, heldFor, readValue, readOne, readAll, service22}
+use Rattle.model.specs.Request.{service}
+use Rattle.model.specs.Alike.{Points, AlikeRows, AlikeTable}
+use Rattle.model.proofs.Blind.{seeing, blind3E, blind10, blind11, blind27, blind2E, blind2A, blind31, blind28, blind2F, blind34, blind36, blind37, blind38}
 
 -- the first that passes stands in the list, and passes
 pub first-in : {A : Type 0} (p : A → Bool) (l : List A) (a : A) → first p l ≡ some a → List·Memᴰ a l × (p a ≡ true)
@@ -56,3 +59,36 @@ value-alike limit x y t u n a = rw (← rows-alike x y n (a .rows)) (row-alike l
     go r e k h =
         let f = first-in (isValue y) (t .rows) r e in
         elim (ℕ-discrete (getD (t .pool) k 0) (getD (u .pool) k 0)) [ yes z ↦ z | no z ↦ absurd (n (sym (eqb-true _ _ (f .1)) ∙ a .bytes k z .0 r (f .0) h)) ]
+
+-- a level that is not held keeps a reader out
+kept-out : (held level : ℕ) (o : Option DidConfig) → levelOf o ≡ level → held < level → heldFor held o ≡ false
+kept-out held level o e h = rw e (lt-leb level held h)
+
+module _ (x level : ℕ) (v : Seen) (t u : Table) (p : List ℕ) (row : levelOf (findDid (v .config) x) ≡ level) (low : v .session .level < level) (alike : AlikeTable x t u) where
+  -- 22 of one identifier: x is refused before its value is consulted, and another's value is the same
+  alike-one : (h l : ℕ) (acc : List ℕ) → readOne (seeing v p t) h l acc ≡ readOne (seeing v p u) h l acc
+  unfolding readOne readValue
+  alike-one h l acc = elim (ℕ-discrete (h * 256 + l) x) [
+    | yes z ↦ rw (kept-out (v .session .level) level (findDid (v .config) (h * 256 + l)) (ap (λ (n : ℕ). levelOf (findDid (v .config) n)) z ∙ row) low)
+    | no z ↦ rw (value-alike (v .limit) x (h * 256 + l) t u z alike)
+  ]
+
+  alike-all : (q acc : List ℕ) → readAll (seeing v p t) q acc ≡ readAll (seeing v p u) q acc
+  alike-all [] acc = refl
+  alike-all (h ∷ []) acc = refl
+  alike-all (h ∷ l ∷ rest) acc = rw (alike-one h l acc) (go (readOne (seeing v p u) h l acc) (alike-all rest))
+    where
+      go : (r : Reading) → ((a : List ℕ) → readAll (seeing v p t) rest a ≡ readAll (seeing v p u) rest a) → onward r (readAll (seeing v p t) rest) ≡ onward r (readAll (seeing v p u) rest)
+      go (going a) ih = ih a
+      go (ended r) ih = refl
+
+  alike22 : service22 (seeing v p t) ≡ service22 (seeing v p u)
+  unfolding service22
+  alike22 = rw (alike-all p [])
+
+  -- so it is with every service
+  pub alike-service : (sid : ℕ) → service sid (seeing v p t) ≡ service sid (seeing v p u)
+  unfolding service
+  alike-service sid =
+      rw (blind3E v p t u, blind10 v p t u, blind11 v p t u, blind27 v p p t u refl refl, alike22, blind2E v p t u, blind2A v p t u)
+      (rw (blind31 v p t u, blind28 v p t u, blind2F v p t u, blind34 v p t u, blind36 v p t u, blind37 v p t u, blind38 v p t u))

@@ -1,7 +1,7 @@
 -- What a service sees, which act it asks, and what it wants: an effect, which one function carries out.
 use Prim.Native.Nat.{ℕ}
-use mathlib.Core.Bool.{Bool, true, false}
-use mathlib.Core.List.{List, [], _∷_}
+use mathlib.Core.Bool.{Bool, false}
+use mathlib.Core.List.{List, []}
 use lib.Dec.{eqb}
 use Rattle.model.specs.Tests.{pick}
 use Rattle.model.specs.Numbers.{Moment}
