@@ -1,4 +1,4 @@
--- The theorem of `Between` is not empty: once the level is held, or where none is asked, two tables do give different replies.
+-- The theorem of `StandsBetween` is not empty: once the level is held, or where none is asked, two tables do give different replies.
 use Prim.Native.Nat.{ℕ, zero, suc}
 use mathlib.Core.Path.{_≡_, refl, ap}
 use mathlib.Core.List.{List, [], _∷_, List·Memᴰ·not-nil, List·Memᴰ·cases-cons}
@@ -62,6 +62,11 @@ reads-one = refl
 pub reads-two : reply two ≡ 0x62 ∷ 0xF1 ∷ 0x90 ∷ 6 ∷ []
 unfolding whole
 reads-two = refl
+
+-- below it F190 is refused, whatever its byte
+pub refused-below : reply (asks (0x22 ∷ 0xF1 ∷ 0x90 ∷ []) given0 (says 7 5) ∷ []) ≡ 0x7F ∷ 0x22 ∷ 0x33 ∷ []
+unfolding whole
+refused-below = refl
 
 -- F201 asks no level: two tables that differ in it give different replies at once
 pub free-one : reply (asks (0x22 ∷ 0xF2 ∷ 0x01 ∷ []) given0 (says 7 5) ∷ []) ≡ 0x62 ∷ 0xF2 ∷ 0x01 ∷ 5 ∷ []

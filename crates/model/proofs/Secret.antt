@@ -1,31 +1,23 @@
 -- What is behind the key: a value is read only where its level is held, so no answer depends on one that is kept out.
 use Prim.Native.Nat.{ℕ, _+_, _*_, _<_}
 use mathlib.Core.Path.{_≡_, refl, ap, sym, _∙_}
-use mathlib.Core.Bool.{Bool, true, false}
-use mathlib.Core.List.{List, [], _∷_, List·Memᴰ, List·Memᴰ·head, List·Memᴰ·tail}
-use mathlib.Core.Option.{Option, some, none, Option·none-ne-some}
+use mathlib.Core.Bool.{false}
+use mathlib.Core.List.{List, [], _∷_}
+use mathlib.Core.Option.{Option, some, none}
 use native.Mathlib.Omega.{arith}
 use native.Mathlib.Decide.{ℕ-discrete}
 use lib.ListN.{length, take, drop, getD, length-take, length-drop}
 use lib.Seq.{ext-getD, getD-take, getD-drop}
 use borrow.Author.Tests.{eqb-true, ne-eqb, lt-leb}
-use Rattle.model.specs.Tests.{pick, first}
+use Rattle.model.specs.Tests.{first}
 use Rattle.model.specs.Values.{bytes, ValueRow, Table, isValue, rowValue, value}
 use Rattle.model.specs.Config.{DidConfig, findDid, levelOf}
 use Rattle.model.specs.Service.{Seen}
 use Rattle.model.specs.Service22.{Reading, going, ended, onward, heldFor, readValue, readOne, readAll, service22}
 use Rattle.model.specs.Request.{service}
 use Rattle.model.specs.Alike.{Points, AlikeRows, AlikeTable}
+use Rattle.model.proofs.FirstRow.{first-in}
 use Rattle.model.proofs.Blind.{seeing, blind3E, blind10, blind11, blind27, blind2E, blind2A, blind31, blind28, blind2F, blind34, blind36, blind37, blind38}
-
--- the first that passes stands in the list, and passes
-pub first-in : {A : Type 0} (p : A → Bool) (l : List A) (a : A) → first p l ≡ some a → List·Memᴰ a l × (p a ≡ true)
-first-in p [] a e = absurd (Option·none-ne-some a e)
-first-in p (b ∷ l) a e = go (first-in p l a) (p b) refl e
-  where
-    go : (first p l ≡ some a → List·Memᴰ a l × (p a ≡ true)) → (t : Bool) → p b ≡ t → pick t (some b) (first p l) ≡ some a → List·Memᴰ a (b ∷ l) × (p a ≡ true)
-    go k true h f = let g : b ≡ a = cc in (List·Memᴰ·head (sym g), rw (← g) h)
-    go k false h f = (List·Memᴰ·tail (k f .0), k f .1)
 
 -- another identifier's first row is the same in both
 rows-alike : (x y : ℕ) {l m : List ValueRow} → (y ≡ x → ⊥) → AlikeRows x l m → first (isValue y) l ≡ first (isValue y) m

@@ -1,21 +1,20 @@
 -- Rules that are easy to get wrong: earlier subscriptions stay, busy comes before the length, a drain leaves the buffer's rest.
 use Prim.Native.Nat.{ℕ, _≤_}
-use mathlib.Core.Path.{_≡_, refl, ap, _∙_}
+use mathlib.Core.Path.{_≡_, refl, _∙_}
 use mathlib.Core.Bool.{Bool, true, false}
 use mathlib.Core.List.{List, [], _∷_, _++_}
 use mathlib.Core.Option.{Option, some, none}
 use native.Mathlib.Omega.{arith}
 use lib.ListN.{length, take, drop, length-append, length-drop}
 use lib.Seq.{take-append-seam, drop-append-seam}
-use lib.Dec.{leb}
 use borrow.Author.Tests.{le-leb}
 use Rattle.model.specs.Tests.{pick}
 use Rattle.model.specs.Numbers.{maxTime}
 use Rattle.model.specs.Config.{findDid, readable}
 use Rattle.model.specs.Frame.{sidOf, periodicDid, negativeFrame}
 use Rattle.model.specs.State.{Subscription, AddressMode, PendingRequest, State, received, valid}
-use Rattle.model.specs.Reply.{Reply, positive, negative, always, queued}
-use Rattle.model.specs.Service.{Seen, Effect, schedules}
+use Rattle.model.specs.Reply.{positive, negative, queued}
+use Rattle.model.specs.Service.{Seen, schedules}
 use Rattle.model.specs.Service2A.{rateOf, register, intervalFor, registered, registerAll}
 use Rattle.model.specs.Request.{Request, plain, heard, addressed, routed, request}
 use Rattle.model.specs.Drain.{records, drain}

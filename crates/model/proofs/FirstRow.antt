@@ -1,12 +1,13 @@
 -- The first row wins: the row that a lookup finds stands at its place, no row before it passes, and so many rows were looked at.
 use Prim.Native.Nat.{ℕ, zero, suc, _<_}
-use mathlib.Core.Path.{_≡_, refl, ap}
+use mathlib.Core.Path.{_≡_, refl, ap, sym}
 use mathlib.Core.Bool.{Bool, true, false}
-use mathlib.Core.List.{List, [], _∷_}
+use mathlib.Core.List.{List, [], _∷_, List·Memᴰ, List·Memᴰ·head, List·Memᴰ·tail}
 use mathlib.Core.Option.{Option, some, none, Option·map, Option·none-ne-some, Option·some-ne-none}
 use native.Mathlib.Omega.{arith}
 use lib.ListN.{length, getD}
-use Rattle.model.specs.Tests.{pick, first, place, examined}
+use Rattle.model.specs.Tests.{pick, all, first, place, examined}
+use Rattle.model.proofs.Laws.{left, right}
 
 -- what a place says of a list
 pub record Found {A : Type 0} (p : A → Bool) (l : List A) (d : A) (n : ℕ) : Type 0 where
@@ -48,3 +49,21 @@ module _ {A : Type 0} (p : A → Bool) (d : A) where
       go true f o z ih = absurd (Option·some-ne-none 0 z)
       go false f none z ih = (rw f (ih refl .0), rw f (ap suc (ih refl .1)))
       go false f (some m) z ih = absurd (Option·some-ne-none (suc m) z)
+
+-- the first that passes stands in the list, and passes
+pub first-in : {A : Type 0} (p : A → Bool) (l : List A) (a : A) → first p l ≡ some a → List·Memᴰ a l × (p a ≡ true)
+first-in p [] a e = absurd (Option·none-ne-some a e)
+first-in p (b ∷ l) a e = go (first-in p l a) (p b) refl e
+  where
+    go : (first p l ≡ some a → List·Memᴰ a l × (p a ≡ true)) → (t : Bool) → p b ≡ t → pick t (some b) (first p l) ≡ some a → List·Memᴰ a (b ∷ l) × (p a ≡ true)
+    go k true h f = let g : b ≡ a = cc in (List·Memᴰ·head (sym g), rw (← g) h)
+    go k false h f = (List·Memᴰ·tail (k f .0), k f .1)
+
+-- a test that every element passes, the first that is found passes
+pub first-all : {A : Type 0} (p q : A → Bool) (l : List A) (a : A) → all q l ≡ true → first p l ≡ some a → q a ≡ true
+first-all p q [] a h e = cc
+first-all p q (b ∷ l) a h e = go (first-all p q l a (right (q b) (all q l) h)) (p b) e
+  where
+    go : (first p l ≡ some a → q a ≡ true) → (t : Bool) → pick t (some b) (first p l) ≡ some a → q a ≡ true
+    go k true f = let g : b ≡ a = cc in rw (← g) (left (q b) (all q l) h)
+    go k false f = k f
