@@ -3,7 +3,7 @@ use Prim.Native.Nat.{ℕ, suc, _≤_, _<_}
 use mathlib.Core.Path.{_≡_, refl, ap}
 use mathlib.Core.Bool.{Bool, true, false, _&&_, false≢true}
 use mathlib.Core.List.{List, [], _∷_, _++_}
-use mathlib.Core.Option.{Option, some, none}
+use mathlib.Core.Option.{Option, some, none, Option·none-ne-some}
 use native.Mathlib.Omega.{arith}
 use lib.ListN.{length, length-append}
 use lib.Dec.{leb, ltb, eqb}
@@ -29,19 +29,32 @@ pub either : {A : Type 0} (P : A → Type 0) (b : Bool) {x y : A} → P x → P 
 either P true p q = p
 either P false p q = q
 
--- a test that every element passes, the first that is found passes
-pub first-all : {A : Type 0} (p q : A → Bool) (l : List A) (a : A) → all q l ≡ true → first p l ≡ some a → q a ≡ true
-first-all p q [] a h e = cc
-first-all p q (b ∷ l) a h e = go (first-all p q l a (right (q b) (all q l) h)) (p b) e
-  where
-    go : (first p l ≡ some a → q a ≡ true) → (t : Bool) → pick t (some b) (first p l) ≡ some a → q a ≡ true
-    go k true f = let g : b ≡ a = cc in rw (← g) (left (q b) (all q l) h)
-    go k false f = k f
-
 -- a test over a list that grows by one, that has one changed, or that loses some
 pub all-snoc : {A : Type 0} (q : A → Bool) (l : List A) (a : A) → all q l ≡ true → q a ≡ true → all q (l ++ (a ∷ [])) ≡ true
 all-snoc q [] a h e = both e refl
 all-snoc q (b ∷ l) a h e = both (left (q b) (all q l) h) (all-snoc q l a (right (q b) (all q l) h) e)
+
+pub all-change : {A : Type 0} (p q : A → Bool) (f : A → A) (l : List A) → ((a : A) → q a ≡ true → q (f a) ≡ true) → all q l ≡ true → all q (changeFirst p f l) ≡ true
+all-change p q f [] k h = refl
+all-change p q f (b ∷ l) k h =
+    either (λ m. all q m ≡ true) (p b) (both (k b (left (q b) (all q l) h)) (right (q b) (all q l) h)) (both (left (q b) (all q l) h) (all-change p q f l k (right (q b) (all q l) h)))
+
+pub all-without : {A : Type 0} (p q : A → Bool) (l : List A) → all q l ≡ true → all q (without p l) ≡ true
+all-without p q [] h = refl
+all-without p q (b ∷ l) h =
+    let r : all q (without p l) ≡ true = all-without p q l (right (q b) (all q l) h) in
+    either (λ m. all q m ≡ true) (p b) r (both (left (q b) (all q l) h) r)
+
+-- an entry changed or added keeps a test that the change keeps and the new one passes
+pub all-enter : {A : Type 0} (most : ℕ) (p q : A → Bool) (f : A → A) (new : A) (l m : List A) → ((a : A) → q a ≡ true → q (f a) ≡ true) → q new ≡ true → all q l ≡ true
+    → enter most p f new l ≡ some m → all q m ≡ true
+unfolding enter
+all-enter most p q f new l m k n h e = go (any p l) (ltb (length l) most) e
+  where
+    go : (a b : Bool) → pick a (some (changeFirst p f l)) (pick b (some (l ++ (new ∷ []))) none) ≡ some m → all q m ≡ true
+    go true b z = let g : changeFirst p f l ≡ m = cc in rw (← g) (all-change p q f l k h)
+    go false true z = let g : l ++ (new ∷ []) ≡ m = cc in rw (← g) (all-snoc q l new h n)
+    go false false z = absurd (Option·none-ne-some m z)
 
 -- for Valid and Leaves
 
@@ -72,24 +85,10 @@ pub length-changeFirst : {A : Type 0} (p : A → Bool) (f : A → A) (l : List A
 length-changeFirst p f [] = refl
 length-changeFirst p f (a ∷ l) = either (λ m. length m ≡ suc (length l)) (p a) refl (ap suc (length-changeFirst p f l))
 
--- a change that keeps a test keeps it of every element
-pub all-changeFirst : {A : Type 0} (q p : A → Bool) (f : A → A) (l : List A) → ((a : A) → q a ≡ true → q (f a) ≡ true) → all q l ≡ true → all q (changeFirst p f l) ≡ true
-all-changeFirst q p f [] k h = refl
-all-changeFirst q p f (a ∷ l) k h =
-    either (λ m. all q m ≡ true) (p a)
-    (both (k a (left (q a) (all q l) h)) (right (q a) (all q l) h))
-    (both (left (q a) (all q l) h) (all-changeFirst q p f l k (right (q a) (all q l) h)))
-
 -- a list without some is no longer than it was
 pub length-without : {A : Type 0} (p : A → Bool) (l : List A) → length (without p l) ≤ length l
 length-without p [] = omega arith
 length-without p (a ∷ l) = let k = length-without p l in either (λ m. length m ≤ suc (length l)) (p a) (omega arith) (omega arith)
-
--- and what is left passes what all passed
-pub all-without : {A : Type 0} (q p : A → Bool) (l : List A) → all q l ≡ true → all q (without p l) ≡ true
-all-without q p [] h = refl
-all-without q p (a ∷ l) h =
-    let k = all-without q p l (right (q a) (all q l) h) in either (λ m. all q m ≡ true) (p a) k (both (left (q a) (all q l) h) k)
 
 -- of something that may not be there: a property, if it is
 abbrev pub IfSome : {A : Type 0} → (A → Type 0) → Option A → Type 0
@@ -122,7 +121,7 @@ enter-within most q p f new l k n h =
     let short = within-length most q l h in
     let good = within-all most q l h in
     enter-gives (λ m. tableWithin most q m ≡ true) most p f new l
-    (table-within most q (changeFirst p f l) (rw length-changeFirst short) (all-changeFirst q p f l k good))
+    (table-within most q (changeFirst p f l) (rw length-changeFirst short) (all-change p q f l k good))
     (λ r. table-within most q (l ++ (new ∷ [])) (rw length-append (omega arith)) (all-snoc q l new good n))
 
 -- a property of each of some numbers

@@ -19,7 +19,7 @@ use Rattle.model.specs.Service.{noAct}
 use Rattle.model.specs.Request.{Request, Answer, served, lengthFits, heard, addressed, routed, request}
 use Rattle.model.specs.Question.{bare, askedOf, question}
 use Rattle.model.specs.Pending.{completed, failed, complete, fail}
-use Rattle.model.specs.Tick.{s3, refreshed, Passed, dueSent, passOne, passAll, Ticked, dispatched, periodic, thenPeriodic, ticked, tick}
+use Rattle.model.specs.Tick.{s3, refreshed, Passed, dueSent, passOne, passAll, Ticked, periodic, thenPeriodic, ticked, tick}
 use Rattle.model.specs.Drain.{Drained, records, drain}
 use Rattle.model.specs.History.{Call, requests, questions, ticks, completes, fails, drains, Done, call}
 use Rattle.model.proofs.Laws.{either, memb-each}
@@ -126,7 +126,7 @@ passAll-result limit now t (e ∷ es) a h =
 
 -- and the tick does
 ticked-result : (limit : ℕ) (s : State) (now : Moment) (t : Table) → memb (ticked limit s now t .step .result) (0 ∷ 3 ∷ 4 ∷ 8 ∷ []) ≡ true
-unfolding thenPeriodic dispatched
+unfolding thenPeriodic
 ticked-result limit s now t = go (refreshed (s3 s now) now (s .pending)) (refreshed-answered (s3 s now) now (s .pending))
   where
     go : (p : Step) → Answered (s3 s now) p → memb (thenPeriodic limit now t p .step .result) (0 ∷ 3 ∷ 4 ∷ 8 ∷ []) ≡ true

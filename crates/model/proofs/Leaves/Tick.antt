@@ -12,7 +12,7 @@ use Rattle.model.specs.Tests.{pick}
 use Rattle.model.specs.Numbers.{Moment, maxTime, maxOutbox}
 use Rattle.model.specs.Values.{Outcome, bytes, error, Table, value}
 use Rattle.model.specs.State.{Subscription, State, Step, step, valid}
-use Rattle.model.specs.Tick.{s3, refreshed, Passed, stopped, sent, dueSent, passAll, Ticked, withPassed, dispatched, periodic, thenPeriodic, tick}
+use Rattle.model.specs.Tick.{s3, refreshed, Passed, stopped, sent, dueSent, passAll, Ticked, withPassed, periodic, thenPeriodic, tick}
 use Rattle.model.proofs.Laws.{memb-each}
 use Rattle.model.proofs.Leaves.Results.{refreshed-answered}
 use Rattle.model.proofs.Leaves.Periodic.{due-8, due-4, due-3, dueFrames, moved, stops-at, passed-clean, Met, met}
@@ -99,7 +99,6 @@ module _ (limit : ℕ) (s : State) (now : Moment) (t : Table) (v : valid limit s
     -- for one of those reasons the tick stops at it
     pub tick-stops : (n err : ℕ) → (n ≡ 0 → ⊥) → Why limit (passAll limit now t xs (start (awake s now .state))) n err (value limit t (e .identifier))
         → tick limit s now t ≡ stoppedTick limit (awake s now .state) now t xs (e ∷ ys) n err
-    unfolding dispatched
     tick-stops n err z w =
         rw (tick-goes-on r, p, stops-at limit now t xs ys e (start u) n err z c d (why-stops limit now a e n err (value limit t (e .identifier)) w), clean .0, clean .1) refl
       where
@@ -130,7 +129,7 @@ module _ (limit : ℕ) (s : State) (now : Moment) (t : Table) (v : valid limit s
   pub tick-met : (tick limit s now t .step .result ≡ 0 → ⊥)
       → (awake s now .result ≡ 3)
       ⊎ Met limit now t (awake s now .state .periodic) (start (awake s now .state)) (tick limit s now t .step .result) (tick limit s now t .err)
-  unfolding thenPeriodic dispatched
+  unfolding thenPeriodic
   tick-met = rw is-ticked (go (awake s now) zero-or-three)
     where
       zero-or-three : (awake s now .result ≡ 0) ⊎ (awake s now .result ≡ 3)

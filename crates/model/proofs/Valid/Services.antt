@@ -236,7 +236,7 @@ module _ (v : Seen) (h : Sound v) where
   cancelAll-within client [] t e = e
   cancelAll-within client (b ∷ ids) t e =
       cancelAll-within client ids (without mine t)
-      (table-within maxPeriodic subscriptionValid (without mine t) fewer (all-without subscriptionValid mine t (within-all maxPeriodic subscriptionValid t e)))
+      (table-within maxPeriodic subscriptionValid (without mine t) fewer (all-without mine subscriptionValid t (within-all maxPeriodic subscriptionValid t e)))
     where
       mine : Subscription → Bool
       mine = isSubscription (periodicDid b) client

@@ -13,7 +13,7 @@ use Rattle.model.specs.Numbers.{Moment, maxOutbox, maxTime, maxSpan, max
 use Rattle.model.specs.Values.{Outcome, bytes, error, Table, value}
 use Rattle.model.specs.Frame.{Frame}
 use Rattle.model.specs.State.{Subscription, PendingRequest, State, Step, momentValid, subscriptionValid}
-use Rattle.model.specs.Tick.{expired, s3, refreshed, Passed, stopped, advanced, sent, dueSent, passOne, passAll, Ticked, dispatched, periodic, thenPeriodic, ticked}
+use Rattle.model.specs.Tick.{expired, s3, refreshed, Passed, stopped, advanced, sent, dueSent, passOne, passAll, Ticked, periodic, thenPeriodic, ticked}
 use Rattle.model.proofs.Laws.{both, left, right, either, all-snoc, within-length, within-all, table-within}
 use Rattle.model.specs.Reply.{begun}
 use Rattle.model.proofs.Valid.Parts.{Queued, Valid, later-valid}
@@ -75,7 +75,6 @@ module _ (limit : ℕ) (now : Moment) (t : Table) (time : now ≤ maxTime) where
 
   -- the periodic step
   periodic-valid : (s : State) → Valid limit s → ValidStep limit (periodic limit now t s .step)
-  unfolding dispatched
   periodic-valid s h = record {
     config = h .config;
     lastRx = h .lastRx;
