@@ -12,7 +12,7 @@ use borrow.Author.Tests.{ltb-false, le-ltb}
 use Rattle.model.specs.Tests.{pick, memb}
 use Rattle.model.specs.Numbers.{Moment, maxOutbox}
 use Rattle.model.specs.Config.{findSession, p2ExtOf}
-use Rattle.model.specs.State.{Session, Security, Subscription, PendingRequest, State, Step, step, withQueue, withPending}
+use Rattle.model.specs.State.{AddressMode, physical, functional, Session, Security, Subscription, PendingRequest, State, Step, step, withQueue, withPending}
 use Rattle.model.specs.Reply.{Reply, silent, positive, negative, always, pends, queued, withheld, refused, confirmed, begun, replied}
 use Rattle.model.specs.Frame.{positiveFrame, negativeFrame}
 use Rattle.model.specs.Values.{bytes}
@@ -49,6 +49,25 @@ unfolding confirmed refused
 confirmed-unmoved limit s to sid p =
     either (Unmoved s) (leb (suc (length p)) limit) (queued-unmoved s to (positiveFrame sid p))
     (either (Unmoved s) (withheld (s .mode) 0x14) (λ z. refl) (queued-unmoved s to (negativeFrame sid 0x14)))
+
+-- after a functional request the codes 11, 12, 31, 7E and 7F are dropped with result 0, and nothing changes
+pub five-withheld : (s : State) (to sid : ℕ) → s .mode ≡ functional → Each (λ code. refused s to sid code ≡ step 0 s) (0x11 ∷ 0x12 ∷ 0x31 ∷ 0x7E ∷ 0x7F ∷ [])
+unfolding refused withheld
+five-withheld s to sid m = (rw m refl, (rw m refl, (rw m refl, (rw m refl, (rw m refl, tt)))))
+
+-- any other code is queued
+pub others-sent : (s : State) (to sid code : ℕ) → memb code (0x11 ∷ 0x12 ∷ 0x31 ∷ 0x7E ∷ 0x7F ∷ []) ≡ false → refused s to sid code ≡ queued s to (negativeFrame sid code)
+unfolding refused withheld
+others-sent s to sid code h = go (s .mode)
+  where
+    go : (m : AddressMode) → pick (withheld m code) (step 0 s) (queued s to (negativeFrame sid code)) ≡ queued s to (negativeFrame sid code)
+    go physical = refl
+    go functional = rw h refl
+
+-- and after a physical request every code is
+pub physical-sent : (s : State) (to sid code : ℕ) → s .mode ≡ physical → refused s to sid code ≡ queued s to (negativeFrame sid code)
+unfolding refused withheld
+physical-sent s to sid code m = rw m refl
 
 -- 3 leaves the queue as it was, and 16 frames were held
 abbrev pub Full : State → Step → Type 0
