@@ -7,7 +7,6 @@ use mathlib.Core.Option.{Option, some, none, Option·map, Option·none-ne-some, 
 use native.Mathlib.Omega.{arith}
 use lib.ListN.{length, getD}
 use Rattle.model.specs.Tests.{pick, all, first, place, examined}
-use Rattle.model.proofs.Laws.{left, right}
 
 -- what a place says of a list
 pub record Found {A : Type 0} (p : A → Bool) (l : List A) (d : A) (n : ℕ) : Type 0 where
@@ -58,12 +57,3 @@ first-in p (b ∷ l) a e = go (first-in p l a) (p b) refl e
     go : (first p l ≡ some a → List·Memᴰ a l × (p a ≡ true)) → (t : Bool) → p b ≡ t → pick t (some b) (first p l) ≡ some a → List·Memᴰ a (b ∷ l) × (p a ≡ true)
     go k true h f = let g : b ≡ a = cc in (List·Memᴰ·head (sym g), rw (← g) h)
     go k false h f = (List·Memᴰ·tail (k f .0), k f .1)
-
--- a test that every element passes, the first that is found passes
-pub first-all : {A : Type 0} (p q : A → Bool) (l : List A) (a : A) → all q l ≡ true → first p l ≡ some a → q a ≡ true
-first-all p q [] a h e = cc
-first-all p q (b ∷ l) a h e = go (first-all p q l a (right (q b) (all q l) h)) (p b) e
-  where
-    go : (first p l ≡ some a → q a ≡ true) → (t : Bool) → pick t (some b) (first p l) ≡ some a → q a ≡ true
-    go k true f = let g : b ≡ a = cc in rw (← g) (left (q b) (all q l) h)
-    go k false f = k f

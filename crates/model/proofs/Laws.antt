@@ -56,8 +56,6 @@ all-enter most p q f new l m k n h e = go (any p l) (ltb (length l) most) e
     go false true z = let g : l ++ (new ∷ []) ≡ m = cc in rw (← g) (all-snoc q l new h n)
     go false false z = absurd (Option·none-ne-some m z)
 
--- for Valid and Leaves
-
 -- one of two by the same test on both sides, where the two pairs are related
 pub alike : {A B : Type 0} (R : A → B → Type 0) (b : Bool) {x y : A} {z w : B} → R x z → R y w → R (pick b x y) (pick b z w)
 alike R true p q = p

@@ -8,31 +8,32 @@ use native.Mathlib.Omega.{arith}
 use lib.ListN.{length, drop, getD}
 use lib.Dec.{eqb, leb, ltb}
 use borrow.Author.Tests.{le-leb}
-use Rattle.model.specs.Tests.{pick, all, without}
-use Rattle.model.specs.Numbers.{maxSeed, maxPeriodic, maxDownload}
-use Rattle.model.specs.Config.{SessionConfig, SecurityLevelConfig, findSession, findLevel, findDid, readable, writable, maxAttemptsOf, lockoutOf}
+use Rattle.model.specs.Tests.{all, without}
+use Rattle.model.specs.Numbers.{maxSeed, maxPeriodic}
+use Rattle.model.specs.Config.{SessionConfig, SecurityLevelConfig, findSession, findLevel, findDid, readable, maxAttemptsOf, lockoutOf}
 use Rattle.model.specs.Values.{Outcome, bytes, error, outcome}
-use Rattle.model.specs.Frame.{subFunction, periodicDid, word}
+use Rattle.model.specs.Frame.{subFunction, periodicDid}
 use Rattle.model.specs.State.{Subscription, Failed, Lock, fresh}
-use Rattle.model.specs.Reply.{Reply, positive, refused}
-use Rattle.model.specs.Service.{Seen, Effect, Served, Part, refuses, asks, acted}
+use Rattle.model.specs.Reply.{refused}
+use Rattle.model.specs.Service.{Seen, Effect, Served, refuses}
 use Rattle.model.specs.Service3E.{service3E}
 use Rattle.model.specs.Service10.{sessionControl, service10}
 use Rattle.model.specs.Service11.{reset, service11}
 use Rattle.model.specs.Service27.{locked, awaits, keyFits, failedCount, incrementFailed, setLockout, seedGiven, seedAsked, requestSeed, lockedOut, denied, judged, sendKey, securityAccess, service27}
-use Rattle.model.specs.Service22.{heldFor, service22}
-use Rattle.model.specs.Service2E.{written, writeRow, service2E}
+use Rattle.model.specs.Service22.{service22}
+use Rattle.model.specs.Service2E.{service2E}
 use Rattle.model.specs.Service2A.{rateOf, isSubscription, renewed, subscription, register, intervalFor, registered, registerAll, cancelAll, transmission, service2A}
-use Rattle.model.specs.Service31.{routine, service31}
-use Rattle.model.specs.Service28.{communication, service28}
-use Rattle.model.specs.Service2F.{controlled, service2F}
-use Rattle.model.specs.Service34.{addressLength, sizeLength, service34}
-use Rattle.model.specs.Service36.{transferred, service36}
+use Rattle.model.specs.Service31.{service31}
+use Rattle.model.specs.Service28.{service28}
+use Rattle.model.specs.Service2F.{service2F}
+use Rattle.model.specs.Service34.{service34}
+use Rattle.model.specs.Service36.{service36}
 use Rattle.model.specs.Service37.{service37}
 use Rattle.model.specs.Service38.{service38}
 use Rattle.model.specs.Request.{service}
 use Rattle.model.specs.Pending.{failed}
 use Rattle.model.proofs.Dispatch.{Each}
+use Rattle.model.proofs.OnlyReplies.{Replies, only3E, only22, only2E, only31, only28, only2F, only34, only36, only37, only38}
 use Rattle.model.proofs.Laws.{both, either, all-without, all-enter}
 
 abbrev pub onPage : Subscription → Bool
@@ -61,11 +62,6 @@ module _ (v : Seen) (h : Paged (v .periodic)) where
 
   refuse : (code : ℕ) → Fine (refuses v code)
   refuse code = record { effect = still refl }
-
-  page-acted : (k : List ℕ → Reply) (o : Outcome) → Effected (acted v k o)
-  unfolding acted
-  page-acted k (bytes b) = still refl
-  page-acted k (error code) = still refl
 
   page10 : Fine (service10 v)
   unfolding service10 sessionControl
@@ -153,48 +149,25 @@ module _ (v : Seen) (h : Paged (v .periodic)) where
       (either Fine (eqb mode 4) (fine (record { page = page-cancel ids (v .periodic) h }))
       (either Fine (leb 1 mode && leb mode 3) (fine (page-register mode ids (v .periodic) h)) (refuse 0x12)))
 
-  page22 : Fine (service22 v)
-  unfolding service22
-  page22 = either Fine (leb 2 (length (v .payload)) && eqb (length (v .payload) % 2) 0) (fine (still refl)) (refuse 0x13)
-
-  page2E : Fine (service2E v)
-  unfolding service2E writeRow
-  page2E =
-      let row = findDid (v .config) (word (v .payload) 0) in
-      either Fine (leb 3 (length (v .payload)))
-      (either Fine (writable (v .session .sessionType) row)
-      (either Fine (heldFor (v .session .level) row) (fine (page-acted (written v) (outcome (v .limit) (v .given)))) (refuse 0x33))
-      (refuse 0x31))
-      (refuse 0x13)
-
-  -- an act, or short
-  page-act : (b : Bool) (sid : ℕ) (ps : List Part) (k : List ℕ → Reply) (o : Outcome) → Fine (pick b (asks sid ps (acted v k o)) (refuses v 0x13))
-  page-act b sid ps k o = either Fine b (fine (page-acted k o)) (refuse 0x13)
-
-  page34 : Fine (service34 v)
-  unfolding service34
-  page34 =
-      page-act (leb 3 (length (v .payload)) && leb (2 + addressLength (v .payload) + sizeLength (v .payload)) (length (v .payload))) 0x34 _ positive (outcome maxDownload (v .given))
+  -- a service that only replies
+  only : (a : Served) → Replies v a → Fine a
+  only a e = fine (rw e (still refl))
 
   pub page-each : Each Fine v
-  unfolding service3E service31 service28 service2F service36 service37 service38
-  page-each =
-      let o = outcome (v .limit) (v .given) in
-      let n = length (v .payload) in
-      record {
-        at3E = fine (still refl);
-        at10 = page10;
-        at11 = page11;
-        at27 = page27;
-        at22 = page22;
-        at2E = page2E;
-        at2A = page2A;
-        at31 = page-act (leb 3 n) 0x31 _ (routine v) o;
-        at28 = page-act (leb 2 n) 0x28 _ (communication v) o;
-        at2F = page-act (leb 3 n) 0x2F _ (controlled v) o;
-        at34 = page34;
-        at36 = page-act (leb 1 n) 0x36 _ (transferred v) o;
-        at37 = fine (page-acted positive o);
-        at38 = page-act (leb 3 n) 0x38 _ positive o;
-        refused = refuse;
-      }
+  page-each = record {
+    at3E = only (service3E v) (only3E v);
+    at10 = page10;
+    at11 = page11;
+    at27 = page27;
+    at22 = only (service22 v) (only22 v);
+    at2E = only (service2E v) (only2E v);
+    at2A = page2A;
+    at31 = only (service31 v) (only31 v);
+    at28 = only (service28 v) (only28 v);
+    at2F = only (service2F v) (only2F v);
+    at34 = only (service34 v) (only34 v);
+    at36 = only (service36 v) (only36 v);
+    at37 = only (service37 v) (only37 v);
+    at38 = only (service38 v) (only38 v);
+    refused = refuse;
+  }

@@ -1,7 +1,6 @@
 -- Every state that a server reaches is valid: no call leaves the numbers, and a fresh server keeps them.
 pub mod Parts
 pub mod Replies
-pub mod Only
 pub mod Services
 pub mod Tick
 use Prim.Native.Nat.{ℕ, _≤_}

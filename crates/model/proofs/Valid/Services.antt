@@ -10,7 +10,7 @@ use lib.Dec.{leb, ltb, eqb, lit<}
 use borrow.Author.Tests.{ltb-true, lt-ltb, le-leb}
 use Rattle.model.specs.Tests.{pick, without}
 use Rattle.model.specs.Numbers.{Moment, Span, maxTime, maxSpan, maxPeriodic, maxLevels, maxSeed}
-use Rattle.model.specs.Config.{SessionConfig, ServiceConfig, SecurityLevelConfig, within, tableWithin, findSession, findDid, findLevel, lockoutOf, maxAttemptsOf, readable, allowedIn}
+use Rattle.model.specs.Config.{SessionConfig, ServiceConfig, SecurityLevelConfig, within, tableWithin, findSession, findDid, findLevel, lockoutOf, maxAttemptsOf, readable}
 use Rattle.model.specs.Values.{Outcome, bytes, error, outcome}
 use Rattle.model.specs.Frame.{subFunction, periodicDid}
 use Rattle.model.specs.State.{Security, Failed, Lock, Subscription, momentValid, lockValid, securityValid, subscriptionValid, cleared}
@@ -31,10 +31,11 @@ use Rattle.model.specs.Service36.{service36}
 use Rattle.model.specs.Service37.{service37}
 use Rattle.model.specs.Service38.{service38}
 use Rattle.model.specs.Request.{service, guarded}
+use Rattle.model.proofs.Dispatch.{Each, at-guarded}
 use Rattle.model.proofs.Laws.{both, left, right, either, IfSome, enter-length, enter-within, length-changeFirst, length-without, all-without, within-length, within-all, table-within}
 use Rattle.model.proofs.Valid.Parts.{Subscribed, minInterval-below, lockout-below, later-valid}
 use Rattle.model.proofs.Valid.Replies.{Fits}
-use Rattle.model.proofs.Valid.Only.{Replies, only3E, only22, only2E, only31, only28, only2F, only34, only36, only37, only38}
+use Rattle.model.proofs.OnlyReplies.{Replies, only3E, only22, only2E, only31, only28, only2F, only34, only36, only37, only38}
 
 -- what a service sees keeps the numbers
 pub record Sound (v : Seen) : Type 0 where
@@ -258,28 +259,26 @@ module _ (v : Seen) (h : Sound v) where
       ids : List ℕ
       ids = drop 1 (v .payload)
 
-  -- any of the fourteen, or none of them
-  service-fits : (sid : ℕ) → FitsServed (service sid v)
-  unfolding service
-  service-fits sid =
-      either FitsServed (eqb sid 0x3E) (only-fits (service3E v) (only3E v))
-      (either FitsServed (eqb sid 0x10) fits10
-      (either FitsServed (eqb sid 0x11) fits11
-      (either FitsServed (eqb sid 0x27) fits27
-      (either FitsServed (eqb sid 0x22) (only-fits (service22 v) (only22 v))
-      (either FitsServed (eqb sid 0x2E) (only-fits (service2E v) (only2E v))
-      (either FitsServed (eqb sid 0x2A) fits2A
-      (either FitsServed (eqb sid 0x31) (only-fits (service31 v) (only31 v))
-      (either FitsServed (eqb sid 0x28) (only-fits (service28 v) (only28 v))
-      (either FitsServed (eqb sid 0x2F) (only-fits (service2F v) (only2F v))
-      (either FitsServed (eqb sid 0x34) (only-fits (service34 v) (only34 v))
-      (either FitsServed (eqb sid 0x36) (only-fits (service36 v) (only36 v))
-      (either FitsServed (eqb sid 0x37) (only-fits (service37 v) (only37 v))
-      (either FitsServed (eqb sid 0x38) (only-fits (service38 v) (only38 v))
-      says-fits)))))))))))))
+  -- any of the fourteen, refusals included
+  fits-each : Each FitsServed v
+  fits-each = record {
+    at3E = only-fits (service3E v) (only3E v);
+    at10 = fits10;
+    at11 = fits11;
+    at27 = fits27;
+    at22 = only-fits (service22 v) (only22 v);
+    at2E = only-fits (service2E v) (only2E v);
+    at2A = fits2A;
+    at31 = only-fits (service31 v) (only31 v);
+    at28 = only-fits (service28 v) (only28 v);
+    at2F = only-fits (service2F v) (only2F v);
+    at34 = only-fits (service34 v) (only34 v);
+    at36 = only-fits (service36 v) (only36 v);
+    at37 = only-fits (service37 v) (only37 v);
+    at38 = only-fits (service38 v) (only38 v);
+    refused = λ code. says-fits;
+  }
 
-  -- what a frame's service answers, refusals included
+  -- what a frame's service answers
   pub guarded-fits : (sid : ℕ) (row : Option ServiceConfig) → FitsServed (guarded sid v row)
-  unfolding guarded
-  guarded-fits sid none = says-fits
-  guarded-fits sid (some r) = either FitsServed (allowedIn (v .session .sessionType) r) (service-fits sid) says-fits
+  guarded-fits = at-guarded FitsServed v fits-each

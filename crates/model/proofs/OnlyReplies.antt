@@ -24,15 +24,15 @@ use Rattle.model.specs.Service38.{service38}
 use Rattle.model.proofs.Laws.{either}
 
 -- an effect that is a reply and changes nothing
-abbrev pub OnlyReplies : Seen → Effect → Type 0
-OnlyReplies v e = e ≡ says v (e .reply)
+abbrev pub Only : Seen → Effect → Type 0
+Only v e = e ≡ says v (e .reply)
 
 -- a service that does only that
 abbrev pub Replies : Seen → Served → Type 0
-Replies v a = OnlyReplies v (a .effect)
+Replies v a = Only v (a .effect)
 
 -- what an act's outcome leads to only replies
-acted-only : (v : Seen) (k : List ℕ → Reply) (o : Outcome) → OnlyReplies v (acted v k o)
+acted-only : (v : Seen) (k : List ℕ → Reply) (o : Outcome) → Only v (acted v k o)
 unfolding acted
 acted-only v k (bytes b) = refl
 acted-only v k (error code) = refl
