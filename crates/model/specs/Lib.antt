@@ -27,3 +27,4 @@ pub mod Tick
 pub mod Drain
 pub mod History
 pub mod Fixed
+pub mod Iso
