@@ -6,16 +6,15 @@ use mathlib.Core.List.{List, [], _∷_, _++_, map, append-nil}
 use mathlib.Core.Option.{Option, some, none}
 use mathlib.Core.Logic.{⊎-elim}
 use native.Mathlib.Omega.{arith}
-use native.Mathlib.Nat.{mod-eq-of-lt}
-use lib.ListN.{length, getD}
+use lib.ListN.{length}
 use lib.Dec.{eqb, leb, ltb}
-use borrow.Author.Tests.{lt-ltb, le-leb, lt-leb, eq-eqb, ne-eqb, leb-true, leb-false}
+use borrow.Author.Tests.{lt-ltb, le-leb, lt-leb, eq-eqb, ne-eqb, leb-true, leb-false, eqb-true}
 use Rattle.model.specs.Iso
 use Rattle.model.specs.Tests.{pick, memb}
 use Rattle.model.specs.Numbers.{Moment, maxOutbox}
 use Rattle.model.specs.Frame.{Frame, response, positiveFrame, negativeFrame, suppressed, subFunction, twoBytes, periodicDid}
 use Rattle.model.specs.State.{AddressMode, physical, functional, State, Step, step, withQueue}
-use Rattle.model.specs.Reply.{Reply, silent, positive, negative, always, pends, withheld, queued, refused, confirmed, begun, replied}
+use Rattle.model.specs.Reply.{Reply, silent, positive, negative, always, pends, refusal, withheld, queued, refused, confirmed, begun, replied}
 
 -- a service identifier below 0x40 is answered with 0x40 added, so each of the fourteen is
 pub positive-identifier : (sid : ℕ) → sid < 64 → (fields : List ℕ) → positiveFrame sid fields ≡ Iso.positive sid fields
@@ -45,12 +44,15 @@ pub sub-function-byte : (b : ℕ) (rest : List ℕ) → b < 256
     → (suppressed (b ∷ rest) ≡ Iso.suppressPosRspMsgIndicationBit b) × (subFunction (b ∷ rest) ≡ Iso.subFunctionValue b)
 sub-function-byte b rest h = (suppress-bit b h, refl)
 
--- two bytes, high byte first: they are read back as the number's low 16 bits, and are the standard's where it has no more
-pub two-bytes-read : (n : ℕ) → Iso.unsigned (getD (twoBytes n) 0 0) (getD (twoBytes n) 1 0) ≡ n % 65536
-two-bytes-read n = omega arith
+-- two bytes, high byte first, are the standard's for the number's low 16 bits, which are read back from them
+pub two-bytes : (n : ℕ) → twoBytes n ≡ Iso.twoBytes (n % 65536)
+two-bytes n =
+    let h : n / 256 % 256 ≡ n % 65536 / 256 = omega arith in
+    let l : n % 256 ≡ n % 65536 % 256 = omega arith in
+    rw (h, l)
 
-pub two-bytes-fit : (n : ℕ) → n < 65536 → twoBytes n ≡ Iso.twoBytes n
-two-bytes-fit n h = let k : n / 256 < 256 = omega arith in rw (mod-eq-of-lt k)
+pub two-bytes-read : (n : ℕ) → Iso.unsigned (n / 256) (n % 256) ≡ n
+two-bytes-read n = omega arith
 
 -- functional addressing withholds the five codes and no other; physical addressing withholds none
 abbrev pub functionally : AddressMode → Bool
@@ -126,3 +128,17 @@ module _ (limit : ℕ) (s : State) (client sid : ℕ) (now : Moment) (room : len
   answered h pends a e =
       let f : Iso.negativeResponse 0x78 ≡ a = cc in
       rw (← f, unlisted (s .mode) (Iso.negative sid 0x78), lt-ltb _ _ room, queued)
+
+-- an error byte is answered as the negative response with that code
+pub refusal-code : (code : ℕ) → responseOf (refusal code) ≡ some (Iso.negativeResponse code)
+unfolding refusal
+refusal-code code = go (eqb code 0x78) refl
+  where
+    go : (t : Bool) → eqb code 0x78 ≡ t → responseOf (pick t pends (negative code)) ≡ some (Iso.negativeResponse code)
+    go true e = rw (eqb-true code 0x78 e)
+    go false e = refl
+
+-- a positive reply unless a test holds
+pub suppressing : (t : Bool) (fields : List ℕ) → responseOf (pick t silent (positive fields)) ≡ some (Iso.suppressing t fields)
+suppressing true fields = refl
+suppressing false fields = refl

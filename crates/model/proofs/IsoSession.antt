@@ -1,0 +1,92 @@
+-- The services with a sub-function, and the session's end by S3, against ISO 14229-1.
+use Prim.Native.Nat.{ℕ, suc, _+_, _-_, _/_, _%_, _≤_, _<_}
+use mathlib.Core.Path.{_≡_, refl, sym, _∙_, ap, ap₂}
+use mathlib.Core.Bool.{Bool, true, false}
+use mathlib.Core.List.{List, [], _∷_, _++_}
+use mathlib.Core.Option.{Option, some, none}
+use native.Mathlib.Omega.{arith}
+use native.Mathlib.Nat.{mod-eq-of-lt}
+use lib.ListN.{length}
+use lib.Dec.{eqb, leb, ltb}
+use borrow.Author.Tests.{lt-ltb, le-ltb, le-leb, lt-leb, eq-eqb, ne-eqb}
+use Rattle.model.specs.Iso
+use Rattle.model.specs.Tests.{pick}
+use Rattle.model.specs.Config.{SessionConfig, findSession, s3Of}
+use Rattle.model.specs.Values.{Outcome, bytes, error, outcome}
+use Rattle.model.specs.State.{State}
+use Rattle.model.specs.Service.{Seen}
+use Rattle.model.specs.Service10.{timings, sessionControl, service10}
+use Rattle.model.specs.Service11.{reset, service11}
+use Rattle.model.specs.Service28.{communication, service28}
+use Rattle.model.specs.Service31.{routine, service31}
+use Rattle.model.specs.Service3E.{service3E}
+use Rattle.model.proofs.IsoFrames.{responseOf, suppress-bit, suppressing, refusal-code, two-bytes}
+use Rattle.model.proofs.IsoRequest.{answer}
+
+-- the session parameter record: P2 in ms and P2* in 10 ms, each as its low 16 bits
+pub session-fields : (x : ℕ) (row : SessionConfig) → timings x (some row) ≡ Iso.sessionFields x (row .p2 % 65536) (row .p2Ext / 10 % 65536)
+session-fields x row = ap₂ (λ (a b : List ℕ). x ∷ (a ++ b)) (two-bytes (row .p2)) (two-bytes (row .p2Ext / 10))
+
+-- and whole where they have no more
+pub session-fields-fit : (x : ℕ) (row : SessionConfig) → row .p2 < 65536 → row .p2Ext / 10 < 65536 → timings x (some row) ≡ Iso.sessionFields x (row .p2) (row .p2Ext / 10)
+session-fields-fit x row h k = rw (mod-eq-of-lt h, mod-eq-of-lt k) at (session-fields x row)
+
+module _ (v : Seen) (sub : ℕ) (rest : List ℕ) (p : v .payload ≡ sub ∷ rest) (byte : sub < 256) where
+  abbrev Bit : Bool
+  Bit = Iso.suppressPosRspMsgIndicationBit sub
+
+  -- testerPresent: the value echoed, unless suppressed
+  pub tester-present : answer (service3E v) ≡ some (Iso.unlessSuppressed sub (Iso.valueFields (Iso.subFunctionValue sub)))
+  unfolding service3E
+  tester-present = rw (p, suppress-bit sub byte) (suppressing Bit (sub % 128 ∷ []))
+
+  -- diagnosticSessionControl of a session that is not known is subFunctionNotSupported
+  pub session-unknown : findSession (v .config) (Iso.subFunctionValue sub) ≡ none → answer (service10 v) ≡ some (Iso.negativeResponse Iso.subFunctionNotSupported)
+  unfolding service10 sessionControl
+  session-unknown e = rw (p, le-ltb (suc (length rest)) 1 (omega arith), e)
+
+  module _ (row : SessionConfig) (known : findSession (v .config) (Iso.subFunctionValue sub) ≡ some row) where
+    -- of one that is, it is answered with the session and its two times, unless suppressed
+    pub session-control : answer (service10 v) ≡ some (Iso.unlessSuppressed sub (Iso.sessionFields (Iso.subFunctionValue sub) (row .p2 % 65536) (row .p2Ext / 10 % 65536)))
+    unfolding service10 sessionControl
+    session-control = rw (← session-fields (sub % 128) row, p, le-ltb (suc (length rest)) 1 (omega arith), known, suppress-bit sub byte) (suppressing Bit (timings (sub % 128) (some row)))
+
+    -- and the session is the one asked for, with security locked and no seed waiting
+    pub session-opened : (service10 v .effect .session .sessionType ≡ Iso.subFunctionValue sub) × (service10 v .effect .session .level ≡ Iso.lockedLevel)
+        × (service10 v .effect .security .seed ≡ [])
+    unfolding service10 sessionControl
+    session-opened = rw (p, le-ltb (suc (length rest)) 1 (omega arith), known) (refl, refl, refl)
+
+  module _ (b : List ℕ) (o : outcome (v .limit) (v .given) ≡ bytes b) where
+    -- ecuReset that the act allows: the type echoed, unless suppressed, and the default session afterwards, locked
+    pub ecu-reset : answer (service11 v) ≡ some (Iso.unlessSuppressed sub (Iso.valueFields (Iso.subFunctionValue sub)))
+    unfolding service11 reset
+    ecu-reset = rw (o, p, le-ltb (suc (length rest)) 1 (omega arith), suppress-bit sub byte) (suppressing Bit (sub % 128 ∷ []))
+
+    pub reset-session : (service11 v .effect .session .sessionType ≡ Iso.defaultSession) × (service11 v .effect .session .level ≡ Iso.lockedLevel)
+    unfolding service11 reset
+    reset-session = rw (o, p, le-ltb (suc (length rest)) 1 (omega arith)) (refl, refl)
+
+    -- communicationControl that the act allows: the control type echoed, unless suppressed
+    pub communication-control : 2 ≤ length (v .payload) → answer (service28 v) ≡ some (Iso.unlessSuppressed sub (Iso.valueFields (Iso.subFunctionValue sub)))
+    unfolding service28 communication
+    communication-control h = rw (le-leb 2 (length (v .payload)) h, o, p, suppress-bit sub byte) (suppressing Bit (sub % 128 ∷ []))
+
+    -- routineControl that the act allows: the value, the routine's identifier and the act's bytes, unless suppressed
+    pub routine-control : (h l : ℕ) (more : List ℕ) → rest ≡ h ∷ l ∷ more → answer (service31 v) ≡ some (Iso.unlessSuppressed sub (Iso.routineFields (Iso.subFunctionValue sub) h l b))
+    unfolding service31 routine
+    routine-control h l more e = rw (o, p, e, le-leb 3 (suc (suc (suc (length more)))) (omega arith), suppress-bit sub byte) (suppressing Bit (sub % 128 ∷ h ∷ l ∷ b))
+
+-- what an act refuses is answered with its code, whether or not the suppress bit is set
+module _ (v : Seen) (code : ℕ) (o : outcome (v .limit) (v .given) ≡ error code) where
+  pub reset-refused : 1 ≤ length (v .payload) → answer (service11 v) ≡ some (Iso.negativeResponse code)
+  unfolding service11 reset
+  reset-refused h = rw (o, le-ltb (length (v .payload)) 1 h) (refusal-code code)
+
+  pub communication-refused : 2 ≤ length (v .payload) → answer (service28 v) ≡ some (Iso.negativeResponse code)
+  unfolding service28 communication
+  communication-refused h = rw (o, le-leb 2 (length (v .payload)) h) (refusal-code code)
+
+  pub routine-refused : 3 ≤ length (v .payload) → answer (service31 v) ≡ some (Iso.negativeResponse code)
+  unfolding service31 routine
+  routine-refused h = rw (o, le-leb 3 (length (v .payload)) h) (refusal-code code)
