@@ -108,7 +108,7 @@ module _ (limit : ℕ) (s : State) (client sid : ℕ) (now : Moment) (room : len
       go true = sym (append-nil (s .queue))
       go false = rw (queues s client (negativeFrame sid code))
 
-  confirms : sid < 64 → (fields : List ℕ) → Sends (confirmed limit s client sid fields) (Iso.positiveResponse fields)
+  pub confirms : sid < 64 → (fields : List ℕ) → Sends (confirmed limit s client sid fields) (Iso.positiveResponse fields)
   unfolding confirmed
   confirms h fields = go (leb (suc (length fields)) limit)
     where
