@@ -1,0 +1,184 @@
+-- Reading and writing by identifier, control, and transfer, against ISO 14229-1.
+use Prim.Native.Nat.{ℕ, suc, _+_, _*_, _-_, _%_, _≤_, _<_}
+use mathlib.Core.Path.{_≡_, refl, sym, _∙_, ap}
+use mathlib.Core.Bool.{Bool, true, false, _&&_, false≢true}
+use mathlib.Core.List.{List, [], _∷_, _++_, append-assoc, append-nil}
+use mathlib.Core.Option.{Option, some, none}
+use native.Mathlib.Omega.{arith}
+use lib.ListN.{length}
+use lib.Dec.{eqb, leb, ltb}
+use borrow.Author.Tests.{le-leb, lt-leb, eq-eqb, ne-eqb, eqb-true}
+use Rattle.model.specs.Iso
+use Rattle.model.specs.Tests.{pick}
+use Rattle.model.specs.Numbers.{maxDownload}
+use Rattle.model.specs.Config.{findDid, readable, writable}
+use Rattle.model.specs.Values.{Outcome, bytes, error, outcome, value}
+use Rattle.model.specs.Reply.{Reply, positive, negative}
+use Rattle.model.specs.Service.{Seen, Act, part, says, answers, refuses}
+use Rattle.model.specs.Service22.{Reading, going, ended, onward, appended, valueAppended, heldFor, readValue, readOne, readAll, readReply, service22}
+use Rattle.model.specs.Service2E.{written, writeRow, service2E}
+use Rattle.model.specs.Service2F.{controlled, service2F}
+use Rattle.model.specs.Service34.{passed, addressLength, sizeLength, service34}
+use Rattle.model.specs.Service36.{transferred, service36}
+use Rattle.model.specs.Service37.{service37}
+use Rattle.model.specs.Service38.{service38}
+use Rattle.model.proofs.Laws.{right, either}
+use Rattle.model.proofs.IsoFrames.{responseOf, refusal-code}
+use Rattle.model.proofs.IsoRequest.{answer}
+
+-- r is the record of x: x is supported in the session, its level is held, and the value table says r of it
+pub record Record (v : Seen) (x : ℕ) (r : List ℕ) : Type 0 where
+  pub supported : readable (v .session .sessionType) (findDid (v .config) x) ≡ true
+  pub held : heldFor (v .session .level) (findDid (v .config) x) ≡ true
+  pub value : value (v .limit) (v .table) x ≡ bytes r
+
+-- a reading that goes on has passed each test, and each step before it went on
+passes : (t : Bool) (a : Reading) (r : Reply) (q : List ℕ) → pick t a (ended r) ≡ going q → (t ≡ true) × (a ≡ going q)
+passes true a r q e = (refl, e)
+passes false a r q e = let z : _≡_ {A = ℕ} 0 1 = cc in absurd (omega arith)
+
+went : (a : Reading) (k : List ℕ → Reading) (q : List ℕ) → onward a k ≡ going q → (x : List ℕ) × (a ≡ going x) × (k x ≡ going q)
+went (going x) k q e = (x, refl, e)
+went (ended r) k q e = let z : _≡_ {A = ℕ} 0 1 = cc in absurd (omega arith)
+
+grew : (limit : ℕ) (acc b q : List ℕ) → appended limit acc b ≡ going q → q ≡ acc ++ b
+grew limit acc b q e = let f = passes (leb (length acc + length b) limit) (going (acc ++ b)) (negative 0x14) q e .1 in cc
+
+gave : (limit : ℕ) (o : Outcome) (acc q : List ℕ) → valueAppended limit o acc ≡ going q → (b : List ℕ) × (o ≡ bytes b) × (q ≡ acc ++ b)
+gave limit (bytes b) acc q e = (b, refl, grew limit acc b q e)
+gave limit (error code) acc q e = let z : _≡_ {A = ℕ} 0 1 = cc in absurd (omega arith)
+
+regroup : (q m acc x r : List ℕ) → q ≡ m ++ r → m ≡ acc ++ x → q ≡ acc ++ (x ++ r)
+regroup q m acc x r e f = e ∙ rw (f, append-assoc)
+
+-- one identifier read: its two bytes and its record stand behind the bytes so far
+record One (v : Seen) (h l : ℕ) (acc q : List ℕ) : Type 0 where
+  r : List ℕ
+  is : Record v (Iso.unsigned h l) r
+  behind : q ≡ acc ++ (h ∷ l ∷ r)
+
+-- a reading that ends, ends in a negative response
+abbrev Ends : Reading → Type 0
+Ends (going q) = Unit {0}
+Ends (ended r) = (code : ℕ) × (responseOf r ≡ some (Iso.negativeResponse code))
+
+ends-onward : (a : Reading) (k : List ℕ → Reading) → Ends a → ((q : List ℕ) → Ends (k q)) → Ends (onward a k)
+ends-onward (going q) k h f = f q
+ends-onward (ended r) k h f = h
+
+ends-appended : (limit : ℕ) (acc b : List ℕ) → Ends (appended limit acc b)
+ends-appended limit acc b = either Ends (leb (length acc + length b) limit) tt (0x14, refl)
+
+ends-value : (limit : ℕ) (o : Outcome) (acc : List ℕ) → Ends (valueAppended limit o acc)
+ends-value limit (bytes b) acc = ends-appended limit acc b
+ends-value limit (error code) acc = (code, refusal-code code)
+
+module _ (v : Seen) where
+  ends-one : (h l : ℕ) (acc : List ℕ) → Ends (readOne v h l acc)
+  unfolding readOne readValue
+  ends-one h l acc =
+      either Ends (readable (v .session .sessionType) (findDid (v .config) (h * 256 + l)))
+      (either Ends (heldFor (v .session .level) (findDid (v .config) (h * 256 + l)))
+      (ends-onward (appended (v .limit) acc (h ∷ l ∷ [])) (valueAppended (v .limit) (value (v .limit) (v .table) (h * 256 + l)))
+      (ends-appended (v .limit) acc (h ∷ l ∷ [])) (ends-value (v .limit) (value (v .limit) (v .table) (h * 256 + l))))
+      (0x33, refl))
+      (0x31, refl)
+
+  ends-all : (p acc : List ℕ) → Ends (readAll v p acc)
+  ends-all [] acc = tt
+  ends-all (a ∷ []) acc = tt
+  ends-all (a ∷ b ∷ p) acc = ends-onward (readOne v a b acc) (readAll v p) (ends-one a b acc) (ends-all p)
+
+  one : (h l : ℕ) (acc q : List ℕ) → readOne v h l acc ≡ going q → One v h l acc q
+  unfolding readOne readValue
+  one h l acc q e =
+      let a = passes (readable (v .session .sessionType) (findDid (v .config) x)) _ (negative 0x31) q e in
+      let b = passes (heldFor (v .session .level) (findDid (v .config) x)) _ (negative 0x33) q (a .1) in
+      let c = went (appended (v .limit) acc (h ∷ l ∷ [])) (valueAppended (v .limit) (value (v .limit) (v .table) x)) q (b .1) in
+      let d = gave (v .limit) (value (v .limit) (v .table) x) (c .0) q (c .2) in
+      let g = grew (v .limit) acc (h ∷ l ∷ []) (c .0) (c .1) in
+      record { r = d .0; is = record { supported = a .0; held = b .0; value = d .1 }; behind = regroup q (c .0) acc (h ∷ l ∷ []) (d .0) (d .2) g }
+    where
+      x : ℕ
+      x = h * 256 + l
+
+  -- all read: their fields stand behind the bytes so far
+  all-read : (p acc q : List ℕ) → length p % 2 ≡ 0 → readAll v p acc ≡ going q → (fields : List ℕ) × (q ≡ acc ++ fields) × Iso.DataFields (Record v) p fields
+  all-read [] acc q h e = let f : acc ≡ q = cc in ([], sym f ∙ sym (append-nil acc), Iso.noMore)
+  all-read (a ∷ []) acc q h e = absurd (omega arith)
+  all-read (a ∷ b ∷ p) acc q h e =
+      let c = went (readOne v a b acc) (readAll v p) q e in
+      let d = one a b acc (c .0) (c .1) in
+      let n : length p % 2 ≡ 0 = omega arith in
+      let f = all-read p (c .0) q n (c .2) in
+      (a ∷ b ∷ (d .r ++ f .0), regroup q (c .0) acc (a ∷ b ∷ d .r) (f .0) (f .1) (d .behind), Iso.andThen (d .is) (f .2))
+
+  -- a positive response to readDataByIdentifier is each identifier with its record, in the request's order
+  pub data-read : (fields : List ℕ) → answer (service22 v) ≡ some (Iso.positiveResponse fields) → Iso.DataFields (Record v) (v .payload) fields
+  unfolding service22
+  data-read fields e = go (leb 2 (length (v .payload)) && eqb (length (v .payload) % 2) 0) refl e
+    where
+      took : (a : Reading) → Ends a → responseOf (readReply a) ≡ some (Iso.positiveResponse fields) → a ≡ going fields
+      took (going q) h e = ap going cc
+      took (ended r) h e = let f = h .1 in let z : _≡_ {A = ℕ} 0 1 = cc in absurd (omega arith)
+
+      go : (t : Bool) → (leb 2 (length (v .payload)) && eqb (length (v .payload) % 2) 0) ≡ t
+          → answer (pick t (answers (says v (readReply (readAll v (v .payload) [])))) (refuses v 0x13)) ≡ some (Iso.positiveResponse fields)
+          → Iso.DataFields (Record v) (v .payload) fields
+      go true h e =
+          let n = eqb-true _ _ (right (leb 2 (length (v .payload))) (eqb (length (v .payload) % 2) 0) h) in
+          let f = all-read (v .payload) [] fields n (took (readAll v (v .payload) []) (ends-all (v .payload) []) e) in
+          rw (f .1) (f .2)
+      go false h e = let z : _≡_ {A = ℕ} 0 1 = cc in absurd (omega arith)
+
+  -- at an identifier that the session does not support: requestOutOfRange; at one whose level is not held: securityAccessDenied
+  module _ (h l : ℕ) (rest : List ℕ) (p : v .payload ≡ h ∷ l ∷ rest) (even : length rest % 2 ≡ 0) where
+    reads : answer (service22 v) ≡ responseOf (readReply (onward (readOne v h l []) (readAll v rest)))
+    unfolding service22
+    reads = let n : suc (suc (length rest)) % 2 ≡ 0 = omega arith in rw (p, le-leb 2 (suc (suc (length rest))) (omega arith), n)
+
+    pub read-unsupported : readable (v .session .sessionType) (findDid (v .config) (Iso.unsigned h l)) ≡ false → answer (service22 v) ≡ some (Iso.negativeResponse Iso.requestOutOfRange)
+    unfolding readOne
+    read-unsupported e = reads ∙ rw e
+
+    pub read-denied : readable (v .session .sessionType) (findDid (v .config) (Iso.unsigned h l)) ≡ true → heldFor (v .session .level) (findDid (v .config) (Iso.unsigned h l)) ≡ false
+        → answer (service22 v) ≡ some (Iso.negativeResponse Iso.securityAccessDenied)
+    unfolding readOne
+    read-denied e f = reads ∙ rw (e, f)
+
+-- half an identifier is incorrectMessageLengthOrInvalidFormat
+pub read-odd : (v : Seen) → length (v .payload) % 2 ≡ 1 → answer (service22 v) ≡ some (Iso.negativeResponse Iso.incorrectMessageLengthOrInvalidFormat)
+unfolding service22
+read-odd v h = rw h (go (leb 2 (length (v .payload))))
+  where
+    go : (t : Bool) → answer (pick (t && false) (answers (says v (readReply (readAll v (v .payload) [])))) (refuses v 0x13)) ≡ some (Iso.negativeResponse 0x13)
+    go true = refl
+    go false = refl
+
+-- writeDataByIdentifier of an identifier and at least a byte
+module _ (v : Seen) (h l d : ℕ) (rest : List ℕ) (p : v .payload ≡ h ∷ l ∷ d ∷ rest) where
+  writes : service2E v ≡ writeRow v (findDid (v .config) (Iso.unsigned h l))
+  unfolding service2E
+  writes = rw (p, le-leb 3 (suc (suc (suc (length rest)))) (omega arith))
+
+  -- not writable in the session: requestOutOfRange
+  pub write-unsupported : writable (v .session .sessionType) (findDid (v .config) (Iso.unsigned h l)) ≡ false → answer (service2E v) ≡ some (Iso.negativeResponse Iso.requestOutOfRange)
+  unfolding writeRow
+  write-unsupported e = rw (writes, e)
+
+  module _ (e : writable (v .session .sessionType) (findDid (v .config) (Iso.unsigned h l)) ≡ true) where
+    -- its level not held: securityAccessDenied
+    pub write-denied : heldFor (v .session .level) (findDid (v .config) (Iso.unsigned h l)) ≡ false → answer (service2E v) ≡ some (Iso.negativeResponse Iso.securityAccessDenied)
+    unfolding writeRow
+    write-denied f = rw (writes, e, f)
+
+    -- else the act decides: the identifier, or the act's code
+    pub write-done : heldFor (v .session .level) (findDid (v .config) (Iso.unsigned h l)) ≡ true
+        → (b : List ℕ) → outcome (v .limit) (v .given) ≡ bytes b → answer (service2E v) ≡ some (Iso.positiveResponse (Iso.writeFields h l))
+    unfolding writeRow written
+    write-done f b o = rw (writes, e, f, o, p)
+
+    pub write-refused : heldFor (v .session .level) (findDid (v .config) (Iso.unsigned h l)) ≡ true
+        → (code : ℕ) → outcome (v .limit) (v .given) ≡ error code → answer (service2E v) ≡ some (Iso.negativeResponse code)
+    unfolding writeRow written
+    write-refused f code o = rw (writes, e, f, o) (refusal-code code)
