@@ -24,7 +24,7 @@ use Rattle.model.specs.Service37.{service37}
 use Rattle.model.specs.Service38.{service38}
 use Rattle.model.proofs.Laws.{right, either}
 use Rattle.model.proofs.IsoFrames.{responseOf, refusal-code}
-use Rattle.model.proofs.IsoRequest.{answer}
+use Rattle.model.proofs.IsoRequest.{answer, acted, by-act}
 
 -- r is the record of x: x is supported in the session, its level is held, and the value table says r of it
 pub record Record (v : Seen) (x : ℕ) (r : List ℕ) : Type 0 where
@@ -172,13 +172,43 @@ module _ (v : Seen) (h l d : ℕ) (rest : List ℕ) (p : v .payload ≡ h ∷ l 
     unfolding writeRow
     write-denied f = rw (writes, e, f)
 
-    -- else the act decides: the identifier, or the act's code
+    -- else the act's code, or the identifier
     pub write-done : heldFor (v .session .level) (findDid (v .config) (Iso.unsigned h l)) ≡ true
-        → (b : List ℕ) → outcome (v .limit) (v .given) ≡ bytes b → answer (service2E v) ≡ some (Iso.positiveResponse (Iso.writeFields h l))
+        → answer (service2E v) ≡ some (acted (λ b. Iso.positiveResponse (Iso.writeFields h l)) (outcome (v .limit) (v .given)))
     unfolding writeRow written
-    write-done f b o = rw (writes, e, f, o, p)
+    write-done f = rw (writes, e, f) (by-act (written v) (λ b. Iso.positiveResponse (Iso.writeFields h l)) (λ b. rw p) refusal-code (outcome (v .limit) (v .given)))
 
-    pub write-refused : heldFor (v .session .level) (findDid (v .config) (Iso.unsigned h l)) ≡ true
-        → (code : ℕ) → outcome (v .limit) (v .given) ≡ error code → answer (service2E v) ≡ some (Iso.negativeResponse code)
-    unfolding writeRow written
-    write-refused f code o = rw (writes, e, f, o) (refusal-code code)
+-- inputOutputControlByIdentifier: the act's code, or the identifier and the act's bytes
+pub io-control : (v : Seen) (h l c : ℕ) (rest : List ℕ) → v .payload ≡ h ∷ l ∷ c ∷ rest
+    → answer (service2F v) ≡ some (acted (λ b. Iso.positiveResponse (Iso.controlFields h l b)) (outcome (v .limit) (v .given)))
+unfolding service2F controlled
+io-control v h l c rest p =
+    rw (le-leb 3 (length (v .payload)) (omega (arith, ap length p)))
+    (by-act (controlled v) (λ b. Iso.positiveResponse (Iso.controlFields h l b)) (λ b. rw p) refusal-code (outcome (v .limit) (v .given)))
+
+-- transferData: the act's code, or the counter and the act's bytes
+pub transfer-data : (v : Seen) (counter : ℕ) (rest : List ℕ) → v .payload ≡ counter ∷ rest
+    → answer (service36 v) ≡ some (acted (λ b. Iso.positiveResponse (Iso.transferFields counter b)) (outcome (v .limit) (v .given)))
+unfolding service36 transferred
+transfer-data v counter rest p =
+    rw (le-leb 1 (length (v .payload)) (omega (arith, ap length p)))
+    (by-act (transferred v) (λ b. Iso.positiveResponse (Iso.transferFields counter b)) (λ b. rw p) refusal-code (outcome (v .limit) (v .given)))
+
+-- requestDownload, requestTransferExit, requestFileTransfer: the act's code, or its bytes, which are the fields
+module _ (v : Seen) where
+  passed-on : (o : Outcome) → responseOf (passed v o .reply) ≡ some (acted Iso.positiveResponse o)
+  unfolding passed
+  passed-on o = by-act (passed v) Iso.positiveResponse (λ b. refl) refusal-code o
+
+  pub request-download : 3 ≤ length (v .payload) → 2 + addressLength (v .payload) + sizeLength (v .payload) ≤ length (v .payload)
+      → answer (service34 v) ≡ some (acted Iso.positiveResponse (outcome maxDownload (v .given)))
+  unfolding service34
+  request-download h k = rw (le-leb 3 (length (v .payload)) h, le-leb _ _ k) (passed-on (outcome maxDownload (v .given)))
+
+  pub transfer-exit : answer (service37 v) ≡ some (acted Iso.positiveResponse (outcome (v .limit) (v .given)))
+  unfolding service37
+  transfer-exit = passed-on (outcome (v .limit) (v .given))
+
+  pub file-transfer : 3 ≤ length (v .payload) → answer (service38 v) ≡ some (acted Iso.positiveResponse (outcome (v .limit) (v .given)))
+  unfolding service38
+  file-transfer h = rw (le-leb 3 (length (v .payload)) h) (passed-on (outcome (v .limit) (v .given)))

@@ -12,6 +12,7 @@ use Rattle.model.specs.Iso
 use Rattle.model.specs.Tests.{pick, memb}
 use Rattle.model.specs.Numbers.{Moment, maxOutbox, maxTime, maxRequest}
 use Rattle.model.specs.Config.{ServiceConfig, findService, allowedIn}
+use Rattle.model.specs.Values.{Outcome, bytes, error}
 use Rattle.model.specs.Frame.{sidOf, payloadOf, negativeFrame}
 use Rattle.model.specs.State.{AddressMode, physical, functional, PendingRequest, State, Step, step, valid, received}
 use Rattle.model.specs.Reply.{Reply, negative, queued, replied}
@@ -32,6 +33,16 @@ use Rattle.model.proofs.IsoFrames.{responseOf, to, functionally, answer
 -- a service's answer, in the standard's words
 abbrev pub answer : Served → Option Iso.Response
 answer a = responseOf (a .effect .reply)
+
+-- an answer that an act decides: what its bytes make, or its code
+abbrev pub acted : (List ℕ → Iso.Response) → Outcome → Iso.Response
+acted f (bytes b) = f b
+acted f (error code) = Iso.negativeResponse code
+
+pub by-act : (e : Outcome → Effect) (f : List ℕ → Iso.Response) → ((b : List ℕ) → responseOf (e (bytes b) .reply) ≡ some (f b))
+    → ((code : ℕ) → responseOf (e (error code) .reply) ≡ some (Iso.negativeResponse code)) → (o : Outcome) → responseOf (e o .reply) ≡ some (acted f o)
+by-act e f h k (bytes b) = h b
+by-act e f h k (error code) = k code
 
 -- a request that comes as far as the services: the state is valid, the frame is for this server, none is pending, and its length fits
 pub record Arrives (limit : ℕ) (s : State) (r : Request) (m : AddressMode) : Type 0 where

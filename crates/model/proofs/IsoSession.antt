@@ -21,7 +21,7 @@ use Rattle.model.specs.Service28.{communication, service28}
 use Rattle.model.specs.Service31.{routine, service31}
 use Rattle.model.specs.Service3E.{service3E}
 use Rattle.model.proofs.IsoFrames.{responseOf, suppress-bit, suppressing, refusal-code, two-bytes}
-use Rattle.model.proofs.IsoRequest.{answer}
+use Rattle.model.proofs.IsoRequest.{answer, acted, by-act}
 
 -- the session parameter record: P2 in ms and P2* in 10 ms, each as its low 16 bits
 pub session-fields : (x : ℕ) (row : SessionConfig) → timings x (some row) ≡ Iso.sessionFields x (row .p2 % 65536) (row .p2Ext / 10 % 65536)
@@ -57,36 +57,37 @@ module _ (v : Seen) (sub : ℕ) (rest : List ℕ) (p : v .payload ≡ sub ∷ re
     unfolding service10 sessionControl
     session-opened = rw (p, le-ltb (suc (length rest)) 1 (omega arith), known) (refl, refl, refl)
 
-  module _ (b : List ℕ) (o : outcome (v .limit) (v .given) ≡ bytes b) where
-    -- ecuReset that the act allows: the type echoed, unless suppressed, and the default session afterwards, locked
-    pub ecu-reset : answer (service11 v) ≡ some (Iso.unlessSuppressed sub (Iso.valueFields (Iso.subFunctionValue sub)))
-    unfolding service11 reset
-    ecu-reset = rw (o, p, le-ltb (suc (length rest)) 1 (omega arith), suppress-bit sub byte) (suppressing Bit (sub % 128 ∷ []))
+  -- what these answer if the act allows it: the sub-function's value, unless suppressed
+  abbrev Echo : List ℕ → Iso.Response
+  Echo b = Iso.unlessSuppressed sub (Iso.valueFields (Iso.subFunctionValue sub))
 
-    pub reset-session : (service11 v .effect .session .sessionType ≡ Iso.defaultSession) × (service11 v .effect .session .level ≡ Iso.lockedLevel)
-    unfolding service11 reset
-    reset-session = rw (o, p, le-ltb (suc (length rest)) 1 (omega arith)) (refl, refl)
-
-    -- communicationControl that the act allows: the control type echoed, unless suppressed
-    pub communication-control : 2 ≤ length (v .payload) → answer (service28 v) ≡ some (Iso.unlessSuppressed sub (Iso.valueFields (Iso.subFunctionValue sub)))
-    unfolding service28 communication
-    communication-control h = rw (le-leb 2 (length (v .payload)) h, o, p, suppress-bit sub byte) (suppressing Bit (sub % 128 ∷ []))
-
-    -- routineControl that the act allows: the value, the routine's identifier and the act's bytes, unless suppressed
-    pub routine-control : (h l : ℕ) (more : List ℕ) → rest ≡ h ∷ l ∷ more → answer (service31 v) ≡ some (Iso.unlessSuppressed sub (Iso.routineFields (Iso.subFunctionValue sub) h l b))
-    unfolding service31 routine
-    routine-control h l more e = rw (o, p, e, le-leb 3 (suc (suc (suc (length more)))) (omega arith), suppress-bit sub byte) (suppressing Bit (sub % 128 ∷ h ∷ l ∷ b))
-
--- what an act refuses is answered with its code, whether or not the suppress bit is set
-module _ (v : Seen) (code : ℕ) (o : outcome (v .limit) (v .given) ≡ error code) where
-  pub reset-refused : 1 ≤ length (v .payload) → answer (service11 v) ≡ some (Iso.negativeResponse code)
+  -- ecuReset: the act's code, suppressed or not; or the type echoed, unless suppressed
+  pub ecu-reset : answer (service11 v) ≡ some (acted Echo (outcome (v .limit) (v .given)))
   unfolding service11 reset
-  reset-refused h = rw (o, le-ltb (length (v .payload)) 1 h) (refusal-code code)
+  ecu-reset =
+      rw (le-ltb (length (v .payload)) 1 (omega (arith, ap length p)))
+      (by-act (reset v) Echo (λ b. rw (p, suppress-bit sub byte) (suppressing Bit (sub % 128 ∷ []))) refusal-code (outcome (v .limit) (v .given)))
 
-  pub communication-refused : 2 ≤ length (v .payload) → answer (service28 v) ≡ some (Iso.negativeResponse code)
+  -- and once it is allowed, the session is the default one, locked
+  pub reset-session : (b : List ℕ) → outcome (v .limit) (v .given) ≡ bytes b
+      → (service11 v .effect .session .sessionType ≡ Iso.defaultSession) × (service11 v .effect .session .level ≡ Iso.lockedLevel)
+  unfolding service11 reset
+  reset-session b o = rw (o, p, le-ltb (suc (length rest)) 1 (omega arith)) (refl, refl)
+
+  -- communicationControl: the same with the control type
+  pub communication-control : 2 ≤ length (v .payload) → answer (service28 v) ≡ some (acted Echo (outcome (v .limit) (v .given)))
   unfolding service28 communication
-  communication-refused h = rw (o, le-leb 2 (length (v .payload)) h) (refusal-code code)
+  communication-control h =
+      rw (le-leb 2 (length (v .payload)) h)
+      (by-act (communication v) Echo (λ b. rw (p, suppress-bit sub byte) (suppressing Bit (sub % 128 ∷ []))) refusal-code (outcome (v .limit) (v .given)))
 
-  pub routine-refused : 3 ≤ length (v .payload) → answer (service31 v) ≡ some (Iso.negativeResponse code)
-  unfolding service31 routine
-  routine-refused h = rw (o, le-leb 3 (length (v .payload)) h) (refusal-code code)
+  -- routineControl: the value, the routine's identifier and the act's bytes, unless suppressed
+  module _ (h l : ℕ) (more : List ℕ) (e : rest ≡ h ∷ l ∷ more) where
+    abbrev Routine : List ℕ → Iso.Response
+    Routine b = Iso.unlessSuppressed sub (Iso.routineFields (Iso.subFunctionValue sub) h l b)
+
+    pub routine-control : answer (service31 v) ≡ some (acted Routine (outcome (v .limit) (v .given)))
+    unfolding service31 routine
+    routine-control =
+        rw (le-leb 3 (length (v .payload)) (omega (arith, ap length p, ap length e)))
+        (by-act (routine v) Routine (λ b. rw (p, e, suppress-bit sub byte) (suppressing Bit (sub % 128 ∷ h ∷ l ∷ b))) refusal-code (outcome (v .limit) (v .given)))
