@@ -48,3 +48,39 @@ module _ {A : Type 0} (p : A → Bool) (Q : A → Type 0) where
           go true h w e = let g : changeFirst p f l ≡ u = cc in rw (← g) (changed l h)
           go false h true e = let g : l ++ (new ∷ []) ≡ u = cc in rw (← g) (added l h)
           go false h false e = let g : false ≡ true = cc in absurd (false≢true g)
+
+-- what is found stays found, with its property, where another is entered
+module _ {A : Type 0} (q : A → Bool) (Q : A → Type 0) where
+  at : (a : A) (l : List A) → q a ≡ true → Found q Q (a ∷ l) → Q a
+  at a l e g = let h = rw e at (g .first) in let i : g .entry ≡ a = cc in rw i at (g .has)
+
+  past : (a : A) (l : List A) → q a ≡ false → Found q Q (a ∷ l) → Found q Q l
+  past a l e g = record { entry = g .entry; first = rw e at (g .first); has = g .has }
+
+  module _ (p : A → Bool) (f : A → A) (same : (a : A) → p a ≡ true → q (f a) ≡ q a) (qf : (a : A) → p a ≡ true → q a ≡ true → Q (f a)) where
+    kept-changed : (l : List A) → Found q Q l → Found q Q (changeFirst p f l)
+    kept-changed [] g = g
+    kept-changed (a ∷ l) g = go (kept-changed l) (p a) refl (q a) refl
+      where
+        go : (Found q Q l → Found q Q (changeFirst p f l)) → (t : Bool) → p a ≡ t → (w : Bool) → q a ≡ w → Found q Q (pick t (f a ∷ l) (a ∷ changeFirst p f l))
+        go k true e true h = here q Q (f a) l (same a e ∙ h) (qf a e h)
+        go k true e false h = there q Q (f a) l (same a e ∙ h) (past a l h g)
+        go k false e true h = here q Q a (changeFirst p f l) h (at a l h g)
+        go k false e false h = there q Q a (changeFirst p f l) h (k (past a l h g))
+
+    kept-added : (l m : List A) → Found q Q l → Found q Q (l ++ m)
+    kept-added [] m g = let z : false ≡ true = cc (g .first) in absurd (false≢true z)
+    kept-added (a ∷ l) m g = go (kept-added l m) (q a) refl
+      where
+        go : (Found q Q l → Found q Q (l ++ m)) → (w : Bool) → q a ≡ w → Found q Q (a ∷ (l ++ m))
+        go k true h = here q Q a (l ++ m) h (at a l h g)
+        go k false h = there q Q a (l ++ m) h (k (past a l h g))
+
+    pub kept : (most : ℕ) (new : A) (l u : List A) → enter most p f new l ≡ some u → Found q Q l → Found q Q u
+    unfolding enter
+    kept most new l u e g = go (any p l) (ltb (length l) most) e
+      where
+        go : (t w : Bool) → pick t (some (changeFirst p f l)) (pick w (some (l ++ (new ∷ []))) none) ≡ some u → Found q Q u
+        go true w e = let i : changeFirst p f l ≡ u = cc in rw (← i) (kept-changed l g)
+        go false true e = let i : l ++ (new ∷ []) ≡ u = cc in rw (← i) (kept-added l (new ∷ []) g)
+        go false false e = let z : false ≡ true = cc in absurd (false≢true z)
