@@ -1,0 +1,313 @@
+-- Where the definition departs from ISO 14229-1: for each the smallest request that shows it, what the definition sends, and what the standard sends.
+-- The configuration is the fixed one, but where that cannot show it.
+use Prim.Native.Nat.{ℕ, suc}
+use mathlib.Core.Path.{_≡_, refl}
+use mathlib.Core.Bool.{Bool, true, false, _&&_}
+use mathlib.Core.List.{List, [], _∷_, map}
+use mathlib.Core.Option.{some, none}
+use lib.ListN.{length, replicate}
+use lib.Dec.{eqb}
+use Rattle.model.specs.Iso
+use Rattle.model.specs.Tests.{enter}
+use Rattle.model.specs.Numbers.{maxFrame}
+use Rattle.model.specs.Config.{SessionConfig, DidConfig, SecurityLevelConfig, Config, within}
+use Rattle.model.specs.Values.{Given, given0, Table, emptyTable, rowValue, outcome}
+use Rattle.model.specs.Frame.{Frame, response}
+use Rattle.model.specs.State.{State, Subscription, PendingRequest, freshSecurity, physical, valid, securityValid, withRecords, withPending}
+use Rattle.model.specs.Reply.{refusal, queued, withheld, refused, confirmed, begun, replied}
+use Rattle.model.specs.Service.{Act, Part, part, changedAfter, apply}
+use Rattle.model.specs.Service3E.{service3E}
+use Rattle.model.specs.Service10.{sessionControl, service10}
+use Rattle.model.specs.Service11.{reset, service11}
+use Rattle.model.specs.Service27.{seedGiven, seedAsked, requestSeed, sendKey, securityAccess, service27}
+use Rattle.model.specs.Service22.{readValue, readOne, service22}
+use Rattle.model.specs.Service2A.{transmission, service2A}
+use Rattle.model.specs.Service28.{communication, service28}
+use Rattle.model.specs.Service2F.{controlled, service2F}
+use Rattle.model.specs.Service34.{passed, service34}
+use Rattle.model.specs.Service37.{service37}
+use Rattle.model.specs.Service38.{service38}
+use Rattle.model.specs.Request.{Request, service, guarded, heard, addressed, routed, request}
+use Rattle.model.specs.Pending.{completed, failed, complete, fail}
+use Rattle.model.specs.Tick.{s3, refreshed, passOne, dueSent, dispatched, thenPeriodic, tick}
+use Rattle.model.specs.Fixed.{fixedConfig, fixedDid}
+
+-- a configuration with other sessions, identifiers or levels
+abbrev withSessions : Config → List SessionConfig → Config
+withSessions c x = record { physical = c .physical; functional = c .functional; sessions = x; services = c .services; dids = c .dids; levels = c .levels }
+
+abbrev withDids : Config → List DidConfig → Config
+withDids c x = record { physical = c .physical; functional = c .functional; sessions = c .sessions; services = c .services; dids = x; levels = c .levels }
+
+abbrev withLevels : Config → List SecurityLevelConfig → Config
+withLevels c x = record { physical = c .physical; functional = c .functional; sessions = c .sessions; services = c .services; dids = c .dids; levels = x }
+
+-- a client, and the two addresses that it can call
+abbrev client : ℕ
+client = 3712
+
+abbrev server : ℕ
+server = 16
+
+abbrev everyone : ℕ
+everyone = 2015
+
+-- a server in a session, with a level held
+abbrev serverIn : Config → ℕ → ℕ → State
+serverIn c session level = record {
+  config = c;
+  session = record { sessionType = session; level = level; lastRx = 0 };
+  security = freshSecurity;
+  periodic = [];
+  pending = none;
+  mode = physical;
+  queue = [];
+}
+
+abbrev default : State
+default = serverIn fixedConfig 1 0
+
+-- the fixed configuration with seeds of 32 bytes, with a guarded periodic identifier, with a P2 of 70 seconds
+abbrev longSeeds : Config
+longSeeds = withLevels fixedConfig (record { level = 3; maxAttempts = 3; lockout = 10000; seedLength = 32; keyLength = 4 } ∷ [])
+
+abbrev guardedPeriodic : Config
+guardedPeriodic = withDids fixedConfig (fixedDid 0xF202 3 ∷ [])
+
+abbrev longP2 : Config
+longP2 = withSessions fixedConfig (record { sessionType = 1; p2 = 70000; p2Ext = 5000; s3 = 5000 } ∷ [])
+
+-- a subscription of F201, and a server that holds as many as it can, of another client
+abbrev subscribed : ℕ → Subscription
+subscribed x = record { identifier = 0xF201; client = x; interval = 50; next = 6000 }
+
+abbrev crowded : State
+crowded = withRecords default (default .session) (default .security) (replicate 16 (subscribed 1))
+
+-- a server that was asked for a service and answered 78
+abbrev pendingFor : ℕ → State
+pendingFor sid = withPending (serverIn fixedConfig 3 0) (some (record { dst = client; sid = sid; deadline = 6000 }))
+
+abbrev busy : State
+busy = pendingFor 0x31
+
+-- a request of the client, with what is handed in for its act, and the value table
+abbrev frame : ℕ → List ℕ → Given → Table → Request
+frame dst bytes given table = record { inbound = record { time = 100; src = client; dst = dst; frame = bytes }; given = given; table = table }
+
+-- whose act is done, or gives bytes; and with an identifier whose value is 2A
+abbrev asks : List ℕ → Request
+asks bytes = frame server bytes given0 emptyTable
+
+abbrev acts : List ℕ → List ℕ → Request
+acts bytes given = frame server bytes (record { err = 0; bytes = given }) emptyTable
+
+abbrev reads : List ℕ → ℕ → Request
+reads bytes x = frame server bytes given0 (record { rows = record { identifier = x; err = 0; start = 0; len = 1 } ∷ []; pool = 0x2A ∷ [] })
+
+abbrev seed : List ℕ
+seed = 0x01 ∷ 0x02 ∷ 0x03 ∷ 0x04 ∷ []
+
+abbrev to : ℕ → List ℕ → List Frame
+to dst bytes = record { dst = dst; bytes = bytes } ∷ []
+
+-- a case: a state, a request, the frames that the definition sends, and those that the standard sends
+record Case : Type 0 where
+  state : State
+  request : Request
+  ours : List Frame
+  standards : List Frame
+
+abbrev case : State → Request → List Frame → List Frame → Case
+case s r ours standards = record { state = s; request = r; ours = ours; standards = standards }
+
+-- testerPresent without its sub-function is answered
+abbrev tester-present-short : Case
+tester-present-short = case default (asks (0x3E ∷ [])) (to client (0x7E ∷ 0x00 ∷ [])) (to client (Iso.negative 0x3E Iso.incorrectMessageLengthOrInvalidFormat))
+
+-- testerPresent echoes a sub-function other than 00
+abbrev tester-present-value : Case
+tester-present-value = case default (asks (0x3E ∷ 0x01 ∷ [])) (to client (0x7E ∷ 0x01 ∷ [])) (to client (Iso.negative 0x3E Iso.subFunctionNotSupported))
+
+-- bytes behind a request are passed over
+abbrev trailing-bytes : Case
+trailing-bytes = case default (asks (0x10 ∷ 0x03 ∷ 0x00 ∷ [])) (to client (0x50 ∷ 0x03 ∷ 0x00 ∷ 0x32 ∷ 0x01 ∷ 0xF4 ∷ [])) (to client (Iso.negative 0x10 Iso.incorrectMessageLengthOrInvalidFormat))
+
+-- the response to reset type 04 has no powerDownTime: FF says that none is known
+abbrev power-down-time : Case
+power-down-time = case default (asks (0x11 ∷ 0x04 ∷ [])) (to client (0x51 ∷ 0x04 ∷ [])) (to client (0x51 ∷ 0x04 ∷ 0xFF ∷ []))
+
+-- communicationControl 04 and 05 need no node number
+abbrev node-number : Case
+node-number = case default (asks (0x28 ∷ 0x04 ∷ 0x01 ∷ [])) (to client (0x68 ∷ 0x04 ∷ [])) (to client (Iso.negative 0x28 Iso.incorrectMessageLengthOrInvalidFormat))
+
+-- reading stops at an identifier that is not supported, though another one is
+abbrev read-first-unsupported : Case
+read-first-unsupported = case default (reads (0x22 ∷ 0xF1 ∷ 0x91 ∷ 0xF2 ∷ 0x01 ∷ []) 0xF201) (to client (Iso.negative 0x22 Iso.requestOutOfRange)) (to client (0x62 ∷ 0xF2 ∷ 0x01 ∷ 0x2A ∷ []))
+
+-- a higher level opens what a lower one guards
+abbrev level-order : Case
+level-order = case (serverIn fixedConfig 3 5) (reads (0x22 ∷ 0xF1 ∷ 0x90 ∷ []) 0xF190) (to client (0x62 ∷ 0xF1 ∷ 0x90 ∷ 0x2A ∷ [])) (to client (Iso.negative 0x22 Iso.securityAccessDenied))
+
+-- securityAccess ignores the suppress bit
+abbrev suppressed-seed : Case
+suppressed-seed = case (serverIn fixedConfig 3 0) (acts (0x27 ∷ 0x83 ∷ []) seed) (to client (0x67 ∷ 0x03 ∷ seed)) []
+
+-- a level that is held already is given another seed
+abbrev zero-seed : Case
+zero-seed = case (serverIn fixedConfig 3 3) (acts (0x27 ∷ 0x03 ∷ []) seed) (to client (0x67 ∷ 0x03 ∷ seed)) (to client (0x67 ∷ 0x03 ∷ 0x00 ∷ 0x00 ∷ 0x00 ∷ 0x00 ∷ []))
+
+-- a key of an access type that is not configured comes out of sequence
+abbrev unknown-key-type : Case
+unknown-key-type = case (serverIn fixedConfig 3 0) (asks (0x27 ∷ 0x02 ∷ [])) (to client (Iso.negative 0x27 Iso.requestSequenceError)) (to client (Iso.negative 0x27 Iso.subFunctionNotSupported))
+
+-- a seed of 32 bytes is too long
+abbrev seed-of-32 : Case
+seed-of-32 = case (serverIn longSeeds 3 0) (acts (0x27 ∷ 0x03 ∷ []) (replicate 32 1)) (to client (Iso.negative 0x27 Iso.responseTooLong)) (to client (0x67 ∷ 0x03 ∷ replicate 32 1))
+
+-- the fixed configuration has securityAccess in the default session
+abbrev default-session : Case
+default-session = case default (acts (0x27 ∷ 0x03 ∷ []) seed) (to client (0x67 ∷ 0x03 ∷ seed)) (to client (Iso.negative 0x27 Iso.serviceNotSupportedInActiveSession))
+
+-- the response to readDataByPeriodicIdentifier carries the mode
+abbrev periodic-mode-echoed : Case
+periodic-mode-echoed = case default (asks (0x2A ∷ 0x04 ∷ [])) (to client (0x6A ∷ 0x04 ∷ [])) (to client (0x6A ∷ []))
+
+-- modes 01 to 03 need no identifier
+abbrev periodic-no-identifier : Case
+periodic-no-identifier = case default (asks (0x2A ∷ 0x01 ∷ [])) (to client (0x6A ∷ 0x01 ∷ [])) (to client (Iso.negative 0x2A Iso.incorrectMessageLengthOrInvalidFormat))
+
+-- a mode that there is not is refused as a sub-function
+abbrev periodic-unknown-mode : Case
+periodic-unknown-mode = case default (asks (0x2A ∷ 0x05 ∷ [])) (to client (Iso.negative 0x2A Iso.subFunctionNotSupported)) (to client (Iso.negative 0x2A Iso.requestOutOfRange))
+
+-- a guarded identifier is sent to a client that holds no level
+abbrev periodic-level : Case
+periodic-level = case (serverIn guardedPeriodic 3 0) (asks (0x2A ∷ 0x01 ∷ 0x02 ∷ [])) (to client (0x6A ∷ 0x01 ∷ [])) (to client (Iso.negative 0x2A Iso.securityAccessDenied))
+
+-- with the table full, 31 is sent after a functional request too
+abbrev periodic-full : Case
+periodic-full = case crowded (frame everyone (0x2A ∷ 0x01 ∷ 0x01 ∷ []) given0 emptyTable) (to client (Iso.negative 0x2A Iso.requestOutOfRange)) []
+
+-- requestDownload accepts an address and a size of no bytes
+abbrev download-no-lengths : Case
+download-no-lengths = case (serverIn fixedConfig 3 0) (acts (0x34 ∷ 0x00 ∷ 0x00 ∷ 0x00 ∷ []) (0x10 ∷ 0x40 ∷ [])) (to client (0x74 ∷ 0x10 ∷ 0x40 ∷ [])) (to client (Iso.negative 0x34 Iso.requestOutOfRange))
+
+-- a path that the request cuts off is taken as empty
+abbrev file-path-cut : Case
+file-path-cut = case (serverIn fixedConfig 3 0) (acts (0x38 ∷ 0x01 ∷ 0x00 ∷ 0x05 ∷ 0x41 ∷ []) (0x01 ∷ [])) (to client (0x78 ∷ 0x01 ∷ [])) (to client (Iso.negative 0x38 Iso.incorrectMessageLengthOrInvalidFormat))
+
+-- the control parameter is not echoed: the act's bytes are to begin with it
+abbrev control-parameter : Case
+control-parameter = case (serverIn fixedConfig 3 0) (asks (0x2F ∷ 0xF1 ∷ 0x90 ∷ 0x03 ∷ [])) (to client (0x6F ∷ 0xF1 ∷ 0x90 ∷ [])) (to client (0x6F ∷ 0xF1 ∷ 0x90 ∷ 0x03 ∷ []))
+
+-- an act's bytes that no frame can carry are conditionsNotCorrect
+abbrev act-too-long : Case
+act-too-long = case (serverIn fixedConfig 3 0) (acts (0x37 ∷ []) (replicate 257 0)) (to client (Iso.negative 0x37 Iso.conditionsNotCorrect)) (to client (Iso.negative 0x37 Iso.responseTooLong))
+
+-- busyRepeatRequest goes to the address that was called
+abbrev busy-address : Case
+busy-address = case busy (asks (0x3E ∷ 0x00 ∷ [])) (to server (Iso.negative 0x3E Iso.busyRepeatRequest)) (to client (Iso.negative 0x3E Iso.busyRepeatRequest))
+
+-- a suppressed testerPresent to everyone is answered while a request is pending
+abbrev busy-tester-present : Case
+busy-tester-present = case busy (frame everyone (0x3E ∷ 0x80 ∷ []) given0 emptyTable) (to everyone (Iso.negative 0x3E Iso.busyRepeatRequest)) []
+
+abbrev cases : List Case
+cases =
+    tester-present-short
+    ∷ tester-present-value
+    ∷ trailing-bytes
+    ∷ power-down-time
+    ∷ node-number
+    ∷ read-first-unsupported
+    ∷ level-order
+    ∷ suppressed-seed
+    ∷ zero-seed
+    ∷ unknown-key-type
+    ∷ seed-of-32
+    ∷ default-session
+    ∷ periodic-mode-echoed
+    ∷ periodic-no-identifier
+    ∷ periodic-unknown-mode
+    ∷ periodic-level
+    ∷ periodic-full
+    ∷ download-no-lengths
+    ∷ file-path-cut
+    ∷ control-parameter
+    ∷ act-too-long
+    ∷ busy-address
+    ∷ busy-tester-present
+    ∷ []
+
+-- two lists are the same, by a test on their elements
+abbrev alike : {A : Type 0} → (A → A → Bool) → List A → List A → Bool
+alike f [] [] = true
+alike f [] (b ∷ m) = false
+alike f (a ∷ l) [] = false
+alike f (a ∷ l) (b ∷ m) = f a b && alike f l m
+
+abbrev sameFrame : Frame → Frame → Bool
+sameFrame a b = eqb (a .dst) (b .dst) && alike eqb (a .bytes) (b .bytes)
+
+-- what the definition sends in a case
+abbrev sends : Case → List Frame
+sends c = request maxFrame (c .state) (c .request) .step .state .queue
+
+abbrev ours : Case → List Frame
+ours c = c .ours
+
+abbrev agrees : Case → Bool
+agrees c = alike sameFrame (c .ours) (c .standards)
+
+-- in every case the definition sends what stands there, and that is not what the standard sends
+pub departs : (map sends cases ≡ map ours cases) × (map agrees cases ≡ replicate (length cases) false)
+unfolding request valid within securityValid addressed routed heard guarded service service3E service10 sessionControl service11 reset service27 securityAccess requestSeed seedAsked seedGiven sendKey service22 readOne readValue rowValue service2A transmission enter service28 communication service2F controlled service34 passed service37 service38 part outcome refusal apply changedAfter replied confirmed refused withheld begun queued response
+departs = (refl, refl)
+
+-- the high nibble of the format is taken for the address's length: of 34 00 12 AA BB CC the address is AA and the size BB CC, where the standard's are AA BB and CC
+pub download-nibbles : request maxFrame (serverIn fixedConfig 3 0) (asks (0x34 ∷ 0x00 ∷ 0x12 ∷ 0xAA ∷ 0xBB ∷ 0xCC ∷ [])) .act .arguments
+    ≡ record { start = 1; len = 1 } ∷ record { start = 3; len = 1 } ∷ record { start = 4; len = 2 } ∷ []
+unfolding request valid within securityValid addressed routed heard guarded service service34 part outcome
+download-nibbles = refl
+
+-- P2 is cut to its low 16 bits: 70000 ms is sent as 1170, which is 4464 ms
+pub p2-cut : request maxFrame (serverIn longP2 1 0) (asks (0x10 ∷ 0x01 ∷ [])) .step .state .queue ≡ to client (0x50 ∷ 0x01 ∷ 0x11 ∷ 0x70 ∷ 0x01 ∷ 0xF4 ∷ [])
+unfolding request valid within securityValid addressed routed heard guarded service service10 sessionControl apply replied confirmed queued response
+p2-cut = refl
+
+-- mode 04 with no identifiers stops nothing, where the standard stops all
+pub stop-all : request maxFrame crowded (asks (0x2A ∷ 0x04 ∷ [])) .step .state .periodic ≡ crowded .periodic
+unfolding request valid within securityValid addressed routed heard guarded service service2A transmission apply replied confirmed queued response
+stop-all = refl
+
+-- a refused list keeps the subscriptions before the refusal
+pub refused-list : request maxFrame (serverIn fixedConfig 3 0) (asks (0x2A ∷ 0x01 ∷ 0x01 ∷ 0x05 ∷ [])) .step .state .periodic
+    ≡ record { identifier = 0xF201; client = client; interval = 2000; next = 2100 } ∷ []
+unfolding request valid within securityValid addressed routed heard guarded service service2A transmission enter apply replied refused withheld queued
+refused-list = refl
+
+-- subscriptions outlive their session, where the standard stops them: here it ends by S3
+abbrev watched : State
+watched = withRecords (serverIn fixedConfig 3 0) (serverIn fixedConfig 3 0 .session) freshSecurity (subscribed client ∷ [])
+
+pub subscriptions-outlive : (tick maxFrame watched 5001 emptyTable .step .state .session .sessionType ≡ Iso.defaultSession)
+    × (tick maxFrame watched 5001 emptyTable .step .state .periodic ≡ watched .periodic)
+unfolding tick valid within securityValid s3 refreshed passOne dispatched thenPeriodic
+subscriptions-outlive = (refl, refl)
+
+-- S3 runs while a request is pending, where the standard stops it: the session ends under the request
+pub s3-while-pending : (tick maxFrame busy 5001 emptyTable .step .state .session .sessionType ≡ Iso.defaultSession) × (tick maxFrame busy 5001 emptyTable .step .state .pending ≡ busy .pending)
+unfolding tick valid within securityValid s3 refreshed dispatched thenPeriodic
+s3-while-pending = (refl, refl)
+
+-- a reset that was pending is answered, and the session stays, where the standard's is the default one
+pub pending-reset : (complete maxFrame (pendingFor 0x11) 200 (0x01 ∷ []) .state .queue ≡ to client (0x51 ∷ 0x01 ∷ []))
+    × (complete maxFrame (pendingFor 0x11) 200 (0x01 ∷ []) .state .session .sessionType ≡ 3)
+unfolding complete completed valid within securityValid confirmed queued response
+pending-reset = (refl, refl)
+
+-- a pending request can be failed with 78, which ends it: no final response follows
+pub failed-with-78 : (fail maxFrame busy 200 0x78 .state .queue ≡ to client (Iso.pendingMessage 0x31)) × (fail maxFrame busy 200 0x78 .state .pending ≡ none)
+unfolding fail failed valid within securityValid queued
+failed-with-78 = (refl, refl)
