@@ -5,7 +5,7 @@ use mathlib.Core.Bool.{Bool, true, false, _&&_, false≢true}
 use mathlib.Core.List.{List, [], _∷_, _++_, append-assoc, append-nil}
 use mathlib.Core.Option.{Option, some, none}
 use native.Mathlib.Omega.{arith}
-use lib.ListN.{length}
+use lib.ListN.{length, length-append}
 use lib.Dec.{eqb, leb, ltb}
 use borrow.Author.Tests.{le-leb, lt-leb, eq-eqb, ne-eqb, eqb-true}
 use Rattle.model.specs.Iso
@@ -131,6 +131,30 @@ module _ (v : Seen) where
           rw (f .1) (f .2)
       go false h e = let z : _≡_ {A = ℕ} 0 1 = cc in absurd (omega arith)
 
+  reads-one : (a b : ℕ) (r acc : List ℕ) → Record v (Iso.unsigned a b) r → length acc + 2 + length r ≤ v .limit → readOne v a b acc ≡ going (acc ++ (a ∷ b ∷ r))
+  unfolding readOne readValue
+  reads-one a b r acc x h =
+      let k : length acc + 2 ≤ v .limit = omega arith in
+      let n : length (acc ++ (a ∷ b ∷ [])) + length r ≤ v .limit = simp length-append (omega arith) in
+      rw (x .supported, x .held, le-leb _ _ k, x .value, le-leb _ _ n, append-assoc)
+
+  all-reads : {p fields : List ℕ} → Iso.DataFields (Record v) p fields → (acc : List ℕ) → length acc + length fields ≤ v .limit → readAll v p acc ≡ going (acc ++ fields)
+  all-reads Iso.noMore acc h = ap going (sym (append-nil acc))
+  all-reads (Iso.andThen {h = a} {l = b} {r = r} {ids = ids} {fields = fields} x d) acc h =
+      let n = rw (length-append r fields) at h in
+      let k : length (acc ++ (a ∷ b ∷ r)) + length fields ≤ v .limit = simp length-append (omega arith) in
+      ap (λ (o : Reading). onward o (readAll v ids)) (reads-one a b r acc x (omega arith)) ∙ all-reads d (acc ++ (a ∷ b ∷ r)) k ∙ ap going (append-assoc acc (a ∷ b ∷ r) fields)
+
+  whole : {p fields : List ℕ} → Iso.DataFields (Record v) p fields → length p % 2 ≡ 0
+  whole Iso.noMore = refl
+  whole (Iso.andThen x d) = let n = whole d in omega arith
+
+  -- and where each identifier has its record and the fields fit, the response is positive
+  pub data-reads : (fields : List ℕ) → 2 ≤ length (v .payload) → Iso.DataFields (Record v) (v .payload) fields → length fields ≤ v .limit
+      → answer (service22 v) ≡ some (Iso.positiveResponse fields)
+  unfolding service22
+  data-reads fields h d k = rw (le-leb 2 _ h, eq-eqb _ _ (whole d), all-reads d [] (omega arith))
+
   -- at an identifier that the session does not support: requestOutOfRange; at one whose level is not held: securityAccessDenied
   module _ (h l : ℕ) (rest : List ℕ) (p : v .payload ≡ h ∷ l ∷ rest) (even : length rest % 2 ≡ 0) where
     reads : answer (service22 v) ≡ responseOf (readReply (onward (readOne v h l []) (readAll v rest)))
@@ -145,6 +169,11 @@ module _ (v : Seen) where
         → answer (service22 v) ≡ some (Iso.negativeResponse Iso.securityAccessDenied)
     unfolding readOne
     read-denied e f = reads ∙ rw (e, f)
+
+    -- and a record that the response cannot carry: responseTooLong
+    pub read-long : (r : List ℕ) → Record v (Iso.unsigned h l) r → 2 ≤ v .limit → v .limit < 2 + length r → answer (service22 v) ≡ some (Iso.negativeResponse Iso.responseTooLong)
+    unfolding readOne readValue
+    read-long r x n k = reads ∙ rw (x .supported, x .held, x .value, le-leb 2 _ n, lt-leb (2 + length r) (v .limit) k)
 
 -- half an identifier is incorrectMessageLengthOrInvalidFormat
 pub read-odd : (v : Seen) → length (v .payload) % 2 ≡ 1 → answer (service22 v) ≡ some (Iso.negativeResponse Iso.incorrectMessageLengthOrInvalidFormat)
