@@ -58,7 +58,7 @@ record One (v : Seen) (h l : ℕ) (acc q : List ℕ) : Type 0 where
   behind : q ≡ acc ++ (h ∷ l ∷ r)
 
 -- a reading that ends, ends in a negative response
-abbrev Ends : Reading → Type 0
+abbrev pub Ends : Reading → Type 0
 Ends (going q) = Unit {0}
 Ends (ended r) = (code : ℕ) × (responseOf r ≡ some (Iso.negativeResponse code))
 
@@ -84,7 +84,7 @@ module _ (v : Seen) where
       (0x33, refl))
       (0x31, refl)
 
-  ends-all : (p acc : List ℕ) → Ends (readAll v p acc)
+  pub ends-all : (p acc : List ℕ) → Ends (readAll v p acc)
   ends-all [] acc = tt
   ends-all (a ∷ []) acc = tt
   ends-all (a ∷ b ∷ p) acc = ends-onward (readOne v a b acc) (readAll v p) (ends-one a b acc) (ends-all p)
