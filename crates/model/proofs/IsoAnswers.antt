@@ -1,7 +1,7 @@
 -- Which kinds of answer each service can give: only those with a sub-function are ever silent, and only 2A sends a code whatever the addressing.
-use Prim.Native.Nat.{ℕ, _%_, _-_, _+_, _*_}
+use Prim.Native.Nat.{ℕ, _%_, _-_, _+_}
 use mathlib.Core.Path.{_≡_, refl}
-use mathlib.Core.Bool.{Bool, true, false, _&&_, false≢true}
+use mathlib.Core.Bool.{true, false, _&&_, false≢true}
 use mathlib.Core.List.{List, [], _∷_, _++_}
 use mathlib.Core.Option.{Option, some, none}
 use lib.ListN.{length, getD, drop}
@@ -9,7 +9,7 @@ use lib.Dec.{eqb, leb, ltb}
 use Rattle.model.specs.Iso
 use Rattle.model.specs.Tests.{pick}
 use Rattle.model.specs.Numbers.{maxSeed, maxDownload}
-use Rattle.model.specs.Config.{SessionConfig, SecurityLevelConfig, DidConfig, findSession, findDid, findLevel, readable, writable, maxAttemptsOf, lockoutOf}
+use Rattle.model.specs.Config.{SessionConfig, SecurityLevelConfig, findSession, findDid, findLevel, readable, writable, maxAttemptsOf, lockoutOf}
 use Rattle.model.specs.Values.{Outcome, bytes, error, outcome}
 use Rattle.model.specs.Frame.{suppressed, subFunction, periodicDid, word}
 use Rattle.model.specs.State.{Failed, Lock, Subscription}

@@ -1,20 +1,20 @@
 -- Reading and writing by identifier, control, and transfer, against ISO 14229-1.
-use Prim.Native.Nat.{ℕ, suc, _+_, _*_, _-_, _%_, _≤_, _<_}
+use Prim.Native.Nat.{ℕ, suc, _+_, _*_, _%_, _≤_, _<_}
 use mathlib.Core.Path.{_≡_, refl, sym, _∙_, ap}
-use mathlib.Core.Bool.{Bool, true, false, _&&_, false≢true}
+use mathlib.Core.Bool.{Bool, true, false, _&&_}
 use mathlib.Core.List.{List, [], _∷_, _++_, append-assoc, append-nil}
-use mathlib.Core.Option.{Option, some, none}
+use mathlib.Core.Option.{some}
 use native.Mathlib.Omega.{arith}
 use lib.ListN.{length, length-append}
-use lib.Dec.{eqb, leb, ltb}
-use borrow.Author.Tests.{le-leb, lt-leb, eq-eqb, ne-eqb, eqb-true}
+use lib.Dec.{eqb, leb}
+use borrow.Author.Tests.{le-leb, lt-leb, eq-eqb, eqb-true}
 use Rattle.model.specs.Iso
 use Rattle.model.specs.Tests.{pick}
 use Rattle.model.specs.Numbers.{maxDownload}
 use Rattle.model.specs.Config.{findDid, readable, writable}
 use Rattle.model.specs.Values.{Outcome, bytes, error, outcome, value}
-use Rattle.model.specs.Reply.{Reply, positive, negative}
-use Rattle.model.specs.Service.{Seen, Act, part, says, answers, refuses}
+use Rattle.model.specs.Reply.{Reply, negative}
+use Rattle.model.specs.Service.{Seen, says, answers, refuses}
 use Rattle.model.specs.Service22.{Reading, going, ended, onward, appended, valueAppended, heldFor, readValue, readOne, readAll, readReply, service22}
 use Rattle.model.specs.Service2E.{written, writeRow, service2E}
 use Rattle.model.specs.Service2F.{controlled, service2F}

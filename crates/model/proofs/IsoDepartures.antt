@@ -1,6 +1,6 @@
 -- Where the definition departs from ISO 14229-1: for each the smallest request that shows it, what the definition sends, and what the standard sends.
 -- The configuration is the fixed one, but where that cannot show it.
-use Prim.Native.Nat.{ℕ, suc}
+use Prim.Native.Nat.{ℕ}
 use mathlib.Core.Path.{_≡_, refl}
 use mathlib.Core.Bool.{Bool, true, false, _&&_}
 use mathlib.Core.List.{List, [], _∷_, map}
@@ -13,9 +13,9 @@ use Rattle.model.specs.Numbers.{maxFrame}
 use Rattle.model.specs.Config.{SessionConfig, DidConfig, SecurityLevelConfig, Config, within}
 use Rattle.model.specs.Values.{Given, given0, Table, emptyTable, rowValue, outcome}
 use Rattle.model.specs.Frame.{Frame, response}
-use Rattle.model.specs.State.{State, Subscription, PendingRequest, freshSecurity, physical, valid, securityValid, withRecords, withPending}
+use Rattle.model.specs.State.{State, Subscription, freshSecurity, physical, valid, securityValid, withRecords, withPending}
 use Rattle.model.specs.Reply.{refusal, queued, withheld, refused, confirmed, begun, replied}
-use Rattle.model.specs.Service.{Act, Part, part, changedAfter, apply}
+use Rattle.model.specs.Service.{part, changedAfter, apply}
 use Rattle.model.specs.Service3E.{service3E}
 use Rattle.model.specs.Service10.{sessionControl, service10}
 use Rattle.model.specs.Service11.{reset, service11}
@@ -29,7 +29,7 @@ use Rattle.model.specs.Service37.{service37}
 use Rattle.model.specs.Service38.{service38}
 use Rattle.model.specs.Request.{Request, service, guarded, heard, addressed, routed, request}
 use Rattle.model.specs.Pending.{completed, failed, complete, fail}
-use Rattle.model.specs.Tick.{s3, refreshed, passOne, dueSent, dispatched, thenPeriodic, tick}
+use Rattle.model.specs.Tick.{s3, refreshed, passOne, dispatched, thenPeriodic, tick}
 use Rattle.model.specs.Fixed.{fixedConfig, fixedDid}
 
 -- a configuration with other sessions, identifiers or levels

@@ -1,9 +1,9 @@
 -- What a list holds after one was entered in it, which the theorems on locks and on subscriptions share.
 use Prim.Native.Nat.{ℕ}
-use mathlib.Core.Path.{_≡_, refl, sym, _∙_, ap}
+use mathlib.Core.Path.{_≡_, refl, sym, _∙_}
 use mathlib.Core.Bool.{Bool, true, false, _||_, false≢true}
 use mathlib.Core.List.{List, [], _∷_, _++_}
-use mathlib.Core.Option.{Option, some, none}
+use mathlib.Core.Option.{some, none}
 use lib.ListN.{length}
 use lib.Dec.{ltb}
 use Rattle.model.specs.Tests.{pick, first, any, changeFirst, enter}

@@ -1,18 +1,17 @@
 -- The general rules of ISO 14229-1: layouts of responses, the sub-function byte, what functional addressing withholds.
-use Prim.Native.Nat.{ℕ, suc, _+_, _*_, _/_, _%_, _≤_, _<_}
-use mathlib.Core.Path.{_≡_, refl, sym, _∙_, ap}
+use Prim.Native.Nat.{ℕ, suc, _/_, _%_, _<_}
+use mathlib.Core.Path.{_≡_, refl, sym}
 use mathlib.Core.Bool.{Bool, true, false, _&&_, _||_}
-use mathlib.Core.List.{List, [], _∷_, _++_, map, append-nil}
+use mathlib.Core.List.{List, [], _∷_, _++_, append-nil}
 use mathlib.Core.Option.{Option, some, none}
-use mathlib.Core.Logic.{⊎-elim}
 use native.Mathlib.Omega.{arith}
 use lib.ListN.{length}
-use lib.Dec.{eqb, leb, ltb}
-use borrow.Author.Tests.{lt-ltb, le-leb, lt-leb, eq-eqb, ne-eqb, leb-true, leb-false, eqb-true}
+use lib.Dec.{eqb, leb}
+use borrow.Author.Tests.{lt-ltb, eq-eqb, ne-eqb, leb-true, leb-false, eqb-true}
 use Rattle.model.specs.Iso
 use Rattle.model.specs.Tests.{pick, memb}
 use Rattle.model.specs.Numbers.{Moment, maxOutbox}
-use Rattle.model.specs.Frame.{Frame, response, positiveFrame, negativeFrame, suppressed, subFunction, twoBytes, periodicDid}
+use Rattle.model.specs.Frame.{Frame, response, positiveFrame, negativeFrame, suppressed, subFunction, twoBytes}
 use Rattle.model.specs.State.{AddressMode, physical, functional, State, Step, step, withQueue}
 use Rattle.model.specs.Reply.{Reply, silent, positive, negative, always, pends, refusal, withheld, queued, refused, confirmed, begun, replied}
 

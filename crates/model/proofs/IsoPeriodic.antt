@@ -1,24 +1,23 @@
 -- readDataByPeriodicIdentifier against ISO 14229-1: what the transmission modes do to the subscriptions of the asking client.
-use Prim.Native.Nat.{ℕ, suc, _+_, _%_, _≤_, _<_}
-use mathlib.Core.Path.{_≡_, refl, sym, subst, _∙_, ap}
-use mathlib.Core.Bool.{Bool, true, false, _&&_, _||_, false≢true}
-use mathlib.Core.List.{List, [], _∷_, _++_}
+use Prim.Native.Nat.{ℕ, suc, _+_, _≤_, _<_}
+use mathlib.Core.Path.{_≡_, refl, sym, subst, _∙_}
+use mathlib.Core.Bool.{Bool, true, false, _||_, false≢true}
+use mathlib.Core.List.{List, [], _∷_}
 use mathlib.Core.Option.{Option, some, none}
 use native.Mathlib.Omega.{arith}
 use native.Mathlib.Nat.{mod-eq-of-lt}
 use lib.ListN.{length}
-use lib.Dec.{eqb, leb, ltb}
-use borrow.Author.Tests.{le-ltb, le-leb, lt-leb, eq-eqb, ne-eqb, eqb-true}
+use borrow.Author.Tests.{le-ltb, le-leb, eq-eqb, ne-eqb, eqb-true}
 use Rattle.model.specs.Iso
-use Rattle.model.specs.Tests.{pick, any, first, without, enter}
-use Rattle.model.specs.Numbers.{Moment, Span, maxPeriodic}
+use Rattle.model.specs.Tests.{pick, any, without}
+use Rattle.model.specs.Numbers.{Span, maxPeriodic}
 use Rattle.model.specs.Config.{findDid, readable}
 use Rattle.model.specs.Frame.{periodicDid}
 use Rattle.model.specs.State.{Subscription}
 use Rattle.model.specs.Reply.{negative}
 use Rattle.model.specs.Service.{Seen, Effect, schedules}
-use Rattle.model.specs.Service2A.{slow, medium, fast, rateOf, isSubscription, subscription, renewed, register, intervalFor, registered, registerAll, cancelAll, transmission, service2A}
-use Rattle.model.proofs.Laws.{left, right, both}
+use Rattle.model.specs.Service2A.{rateOf, isSubscription, subscription, renewed, register, intervalFor, registered, registerAll, cancelAll, transmission, service2A}
+use Rattle.model.proofs.Laws.{left, both}
 use Rattle.model.proofs.IsoEnter.{Found, entered, kept}
 use Rattle.model.proofs.IsoFrames.{responseOf}
 use Rattle.model.proofs.IsoRequest.{answer}

@@ -1,23 +1,23 @@
 -- The way of a request, against ISO 14229-1: which codes refuse it, and that a served one is answered with what the standard sends.
-use Prim.Native.Nat.{ℕ, suc, _+_, _≤_, _<_}
-use mathlib.Core.Path.{_≡_, refl, sym, _∙_, ap}
+use Prim.Native.Nat.{ℕ, suc, _≤_, _<_}
+use mathlib.Core.Path.{_≡_, refl, sym, _∙_}
 use mathlib.Core.Bool.{Bool, true, false, false≢true}
 use mathlib.Core.List.{List, [], _∷_, _++_}
 use mathlib.Core.Option.{Option, some, none}
 use native.Mathlib.Omega.{arith}
 use lib.ListN.{length}
-use lib.Dec.{eqb, leb, ltb}
-use borrow.Author.Tests.{lt-ltb, le-ltb, le-leb, lt-leb, eq-eqb, ne-eqb}
+use lib.Dec.{eqb}
+use borrow.Author.Tests.{lt-ltb, le-leb, lt-leb, ne-eqb}
 use Rattle.model.specs.Iso
-use Rattle.model.specs.Tests.{pick, memb}
-use Rattle.model.specs.Numbers.{Moment, maxOutbox, maxTime, maxRequest}
+use Rattle.model.specs.Tests.{pick}
+use Rattle.model.specs.Numbers.{maxOutbox, maxTime, maxRequest}
 use Rattle.model.specs.Config.{ServiceConfig, findService, allowedIn}
 use Rattle.model.specs.Values.{Outcome, bytes, error}
-use Rattle.model.specs.Frame.{sidOf, payloadOf, negativeFrame}
-use Rattle.model.specs.State.{AddressMode, physical, functional, PendingRequest, State, Step, step, valid, received}
-use Rattle.model.specs.Reply.{Reply, negative, queued, replied}
-use Rattle.model.specs.Service.{Seen, Effect, Served, refuses, apply, changed, changedAfter}
-use Rattle.model.specs.Request.{Inbound, Request, Answer, seen, service, guarded, served, carried, heard, addressed, routed, request}
+use Rattle.model.specs.Frame.{sidOf}
+use Rattle.model.specs.State.{AddressMode, PendingRequest, State, Step, step, valid, received}
+use Rattle.model.specs.Reply.{negative, queued, replied}
+use Rattle.model.specs.Service.{Seen, Effect, Served, apply, changed, changedAfter}
+use Rattle.model.specs.Request.{Request, seen, service, guarded, served, carried, heard, addressed, routed, request}
 use Rattle.model.specs.Service10.{service10}
 use Rattle.model.specs.Service11.{service11}
 use Rattle.model.specs.Service22.{service22}

@@ -1,20 +1,18 @@
 -- securityAccess against ISO 14229-1: odd access types ask a seed, the next even one sends its key, and each code in its situation.
 use Prim.Native.Nat.{ℕ, suc, _+_, _-_, _%_, _≤_, _<_}
-use mathlib.Core.Path.{_≡_, refl, sym, _∙_, ap}
-use mathlib.Core.Bool.{Bool, true, false, _&&_}
-use mathlib.Core.List.{List, [], _∷_, _++_}
-use mathlib.Core.Option.{Option, some, none}
+use mathlib.Core.Path.{_≡_, refl}
+use mathlib.Core.Bool.{true, false}
+use mathlib.Core.List.{List, [], _∷_}
+use mathlib.Core.Option.{some, none}
 use native.Mathlib.Omega.{arith}
 use lib.ListN.{length}
-use lib.Dec.{eqb, leb, ltb}
 use borrow.Author.Tests.{lt-ltb, le-ltb, le-leb, lt-leb, eq-eqb, ne-eqb}
 use Rattle.model.specs.Iso
-use Rattle.model.specs.Tests.{pick}
 use Rattle.model.specs.Numbers.{Moment, maxSeed, maxLevels}
 use Rattle.model.specs.Config.{SecurityLevelConfig, findLevel, maxAttemptsOf, lockoutOf}
-use Rattle.model.specs.Values.{Outcome, bytes, error, outcome}
+use Rattle.model.specs.Values.{bytes, error, outcome}
 use Rattle.model.specs.State.{Failed, Lock, Security}
-use Rattle.model.specs.Service.{Seen, Served, Act, Part, part}
+use Rattle.model.specs.Service.{Seen, Act, Part, part}
 use Rattle.model.specs.Service27.{isLock, relock, locked, awaits, keyFits, failedCount, incrementFailed, setLockout, seedGiven, seedAsked, requestSeed, lockedOut, denied, judged, sendKey, securityAccess, service27}
 use Rattle.model.proofs.IsoEnter.{entered}
 use Rattle.model.proofs.IsoRequest.{answer}

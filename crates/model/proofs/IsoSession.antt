@@ -1,26 +1,23 @@
 -- The services with a sub-function, and the session's end by S3, against ISO 14229-1.
-use Prim.Native.Nat.{ℕ, suc, _+_, _-_, _/_, _%_, _≤_, _<_}
-use mathlib.Core.Path.{_≡_, refl, sym, _∙_, ap, ap₂}
-use mathlib.Core.Bool.{Bool, true, false}
+use Prim.Native.Nat.{ℕ, suc, _/_, _%_, _≤_, _<_}
+use mathlib.Core.Path.{_≡_, refl, ap, ap₂}
+use mathlib.Core.Bool.{Bool}
 use mathlib.Core.List.{List, [], _∷_, _++_}
-use mathlib.Core.Option.{Option, some, none}
+use mathlib.Core.Option.{some, none}
 use native.Mathlib.Omega.{arith}
 use native.Mathlib.Nat.{mod-eq-of-lt}
 use lib.ListN.{length}
-use lib.Dec.{eqb, leb, ltb}
-use borrow.Author.Tests.{lt-ltb, le-ltb, le-leb, lt-leb, eq-eqb, ne-eqb}
+use borrow.Author.Tests.{le-ltb, le-leb}
 use Rattle.model.specs.Iso
-use Rattle.model.specs.Tests.{pick}
-use Rattle.model.specs.Config.{SessionConfig, findSession, s3Of}
-use Rattle.model.specs.Values.{Outcome, bytes, error, outcome}
-use Rattle.model.specs.State.{State}
+use Rattle.model.specs.Config.{SessionConfig, findSession}
+use Rattle.model.specs.Values.{bytes, outcome}
 use Rattle.model.specs.Service.{Seen}
 use Rattle.model.specs.Service10.{timings, sessionControl, service10}
 use Rattle.model.specs.Service11.{reset, service11}
 use Rattle.model.specs.Service28.{communication, service28}
 use Rattle.model.specs.Service31.{routine, service31}
 use Rattle.model.specs.Service3E.{service3E}
-use Rattle.model.proofs.IsoFrames.{responseOf, suppress-bit, suppressing, refusal-code, two-bytes}
+use Rattle.model.proofs.IsoFrames.{suppress-bit, suppressing, refusal-code, two-bytes}
 use Rattle.model.proofs.IsoRequest.{answer, acted, by-act}
 
 -- the session parameter record: P2 in ms and P2* in 10 ms, each as its low 16 bits

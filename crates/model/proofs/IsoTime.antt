@@ -1,6 +1,6 @@
 -- What time does, against ISO 14229-1: S3, response pending and the final response, periodic messages.
 use Prim.Native.Nat.{ℕ, suc, _+_, _-_, _%_, _≤_, _<_}
-use mathlib.Core.Path.{_≡_, refl, sym, _∙_, ap}
+use mathlib.Core.Path.{_≡_, refl, _∙_, ap}
 use mathlib.Core.Bool.{Bool, true, false, not, _&&_}
 use mathlib.Core.List.{List, [], _∷_, _++_}
 use mathlib.Core.Option.{Option, some, none}
@@ -12,13 +12,13 @@ use Rattle.model.specs.Iso
 use Rattle.model.specs.Tests.{pick}
 use Rattle.model.specs.Numbers.{Moment, Span, maxOutbox, maxTime}
 use Rattle.model.specs.Config.{findSession, s3Of, p2ExtOf}
-use Rattle.model.specs.Values.{Outcome, bytes, error, Table, value}
+use Rattle.model.specs.Values.{bytes, Table, value}
 use Rattle.model.specs.Frame.{negativeFrame}
-use Rattle.model.specs.State.{State, Step, step, Session, Security, Subscription, PendingRequest, valid, withPending, withQueue}
+use Rattle.model.specs.State.{State, Step, step, Subscription, PendingRequest, valid, withPending, withQueue}
 use Rattle.model.specs.Reply.{queued, pends, replied, begun}
-use Rattle.model.specs.Tick.{s3, postponed, refreshed, Passed, passOne, dueSent, advanced, periodic, dispatched, thenPeriodic, ticked, Ticked, tick}
+use Rattle.model.specs.Tick.{s3, postponed, refreshed, Passed, passOne, dueSent, periodic, dispatched, thenPeriodic, tick}
 use Rattle.model.specs.Pending.{completed, failed, complete, fail}
-use Rattle.model.proofs.IsoFrames.{to, queues, confirms}
+use Rattle.model.proofs.IsoFrames.{to, confirms}
 
 -- S3 and P2* of the session that a state is in
 abbrev pub s3Here : State → Span
