@@ -14,7 +14,7 @@ use Rattle.model.specs.Values.{Outcome, bytes, error, outcome}
 use Rattle.model.specs.Frame.{suppressed, subFunction, periodicDid, word}
 use Rattle.model.specs.State.{Failed, Lock, Subscription}
 use Rattle.model.specs.Reply.{Reply, silent, positive, negative, always, pends, refusal}
-use Rattle.model.specs.Service.{Seen, Effect, Served}
+use Rattle.model.specs.Service.{Seen, Effect, Served, acted}
 use Rattle.model.specs.Service3E.{service3E}
 use Rattle.model.specs.Service10.{sessionControl, service10}
 use Rattle.model.specs.Service11.{reset, service11}
@@ -25,7 +25,7 @@ use Rattle.model.specs.Service28.{communication, service28}
 use Rattle.model.specs.Service2E.{written, writeRow, service2E}
 use Rattle.model.specs.Service2F.{controlled, service2F}
 use Rattle.model.specs.Service31.{routine, service31}
-use Rattle.model.specs.Service34.{passed, addressLength, sizeLength, service34}
+use Rattle.model.specs.Service34.{addressLength, sizeLength, service34}
 use Rattle.model.specs.Service36.{transferred, service36}
 use Rattle.model.specs.Service37.{service37}
 use Rattle.model.specs.Service38.{service38}
@@ -109,27 +109,27 @@ module _ (v : Seen) where
       go (ended r) h = told r (h .0) (h .1)
 
   spoken-2E : Of Spoken (service2E v)
-  unfolding service2E writeRow written
+  unfolding service2E writeRow acted
   spoken-2E =
       let row = findDid (v .config) (word (v .payload) 0) in
-      let acts = by-outcome Spoken (written v) (λ b. tt) refusal-spoken given in
+      let acts = by-outcome Spoken (acted v (written v)) (λ b. tt) refusal-spoken given in
       either (Of Spoken) (leb 3 len) (either (Of Spoken) (writable (v .session .sessionType) row) (either (Of Spoken) (heldFor (v .session .level) row) acts tt) tt) tt
 
   spoken-2F : Of Spoken (service2F v)
-  unfolding service2F controlled
-  spoken-2F = either (Of Spoken) (leb 3 len) (by-outcome Spoken (controlled v) (λ b. tt) refusal-spoken given) tt
+  unfolding service2F acted
+  spoken-2F = either (Of Spoken) (leb 3 len) (by-outcome Spoken (acted v (controlled v)) (λ b. tt) refusal-spoken given) tt
 
-  spoken-passed : (o : Outcome) → Spoken (passed v o .reply)
-  unfolding passed
-  spoken-passed o = by-outcome Spoken (passed v) (λ b. tt) refusal-spoken o
+  spoken-passed : (o : Outcome) → Spoken (acted v positive o .reply)
+  unfolding acted
+  spoken-passed o = by-outcome Spoken (acted v positive) (λ b. tt) refusal-spoken o
 
   spoken-34 : Of Spoken (service34 v)
   unfolding service34
   spoken-34 = either (Of Spoken) (leb 3 len && leb (2 + addressLength (v .payload) + sizeLength (v .payload)) len) (spoken-passed (outcome maxDownload (v .given))) tt
 
   spoken-36 : Of Spoken (service36 v)
-  unfolding service36 transferred
-  spoken-36 = either (Of Spoken) (leb 1 len) (by-outcome Spoken (transferred v) (λ b. tt) refusal-spoken given) tt
+  unfolding service36 acted
+  spoken-36 = either (Of Spoken) (leb 1 len) (by-outcome Spoken (acted v (transferred v)) (λ b. tt) refusal-spoken given) tt
 
   spoken-37 : Of Spoken (service37 v)
   unfolding service37
@@ -181,12 +181,12 @@ module _ (v : Seen) where
   ordinary-11 = either (Of Ordinary) (ltb len 1) tt (by-outcome Ordinary (reset v) (λ b. quiet _) refusal-ordinary given)
 
   ordinary-28 : Of Ordinary (service28 v)
-  unfolding service28 communication
-  ordinary-28 = either (Of Ordinary) (leb 2 len) (by-outcome Ordinary (communication v) (λ b. quiet _) refusal-ordinary given) tt
+  unfolding service28 acted
+  ordinary-28 = either (Of Ordinary) (leb 2 len) (by-outcome Ordinary (acted v (communication v)) (λ b. quiet _) refusal-ordinary given) tt
 
   ordinary-31 : Of Ordinary (service31 v)
-  unfolding service31 routine
-  ordinary-31 = either (Of Ordinary) (leb 3 len) (by-outcome Ordinary (routine v) (λ b. quiet _) refusal-ordinary given) tt
+  unfolding service31 acted
+  ordinary-31 = either (Of Ordinary) (leb 3 len) (by-outcome Ordinary (acted v (routine v)) (λ b. quiet _) refusal-ordinary given) tt
 
   ordinary-seed : (level : ℕ) → Of Ordinary (requestSeed v level)
   unfolding requestSeed seedAsked seedGiven

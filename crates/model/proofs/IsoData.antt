@@ -13,18 +13,18 @@ use Rattle.model.specs.Tests.{pick}
 use Rattle.model.specs.Numbers.{maxDownload}
 use Rattle.model.specs.Config.{findDid, readable, writable}
 use Rattle.model.specs.Values.{Outcome, bytes, error, outcome, value}
-use Rattle.model.specs.Reply.{Reply, negative}
-use Rattle.model.specs.Service.{Seen, says, answers, refuses}
+use Rattle.model.specs.Reply.{Reply, positive, negative}
+use Rattle.model.specs.Service.{Seen, acted, says, answers, refuses}
 use Rattle.model.specs.Service22.{Reading, going, ended, onward, appended, valueAppended, heldFor, readValue, readOne, readAll, readReply, service22}
 use Rattle.model.specs.Service2E.{written, writeRow, service2E}
 use Rattle.model.specs.Service2F.{controlled, service2F}
-use Rattle.model.specs.Service34.{passed, addressLength, sizeLength, service34}
+use Rattle.model.specs.Service34.{addressLength, sizeLength, service34}
 use Rattle.model.specs.Service36.{transferred, service36}
 use Rattle.model.specs.Service37.{service37}
 use Rattle.model.specs.Service38.{service38}
 use Rattle.model.proofs.Laws.{right, either}
 use Rattle.model.proofs.IsoFrames.{responseOf, refusal-code}
-use Rattle.model.proofs.IsoRequest.{answer, acted, by-act}
+use Rattle.model.proofs.IsoRequest.{answer, decided, by-act}
 
 -- r is the record of x: x is supported in the session, its level is held, and the value table says r of it
 pub record Record (v : Seen) (x : ℕ) (r : List ℕ) : Type 0 where
@@ -203,41 +203,40 @@ module _ (v : Seen) (h l d : ℕ) (rest : List ℕ) (p : v .payload ≡ h ∷ l 
 
     -- else the act's code, or the identifier
     pub write-done : heldFor (v .session .level) (findDid (v .config) (Iso.unsigned h l)) ≡ true
-        → answer (service2E v) ≡ some (acted (λ b. Iso.positiveResponse (Iso.writeFields h l)) (outcome (v .limit) (v .given)))
-    unfolding writeRow written
-    write-done f = rw (writes, e, f) (by-act (written v) (λ b. Iso.positiveResponse (Iso.writeFields h l)) (λ b. rw p) refusal-code (outcome (v .limit) (v .given)))
+        → answer (service2E v) ≡ some (decided (λ b. Iso.positiveResponse (Iso.writeFields h l)) (outcome (v .limit) (v .given)))
+    unfolding writeRow
+    write-done f = rw (writes, e, f) (by-act v (written v) (λ b. Iso.positiveResponse (Iso.writeFields h l)) (λ b. rw p) (outcome (v .limit) (v .given)))
 
 -- inputOutputControlByIdentifier: the act's code, or the identifier and the act's bytes
 pub io-control : (v : Seen) (h l c : ℕ) (rest : List ℕ) → v .payload ≡ h ∷ l ∷ c ∷ rest
-    → answer (service2F v) ≡ some (acted (λ b. Iso.positiveResponse (Iso.controlFields h l b)) (outcome (v .limit) (v .given)))
-unfolding service2F controlled
+    → answer (service2F v) ≡ some (decided (λ b. Iso.positiveResponse (Iso.controlFields h l b)) (outcome (v .limit) (v .given)))
+unfolding service2F
 io-control v h l c rest p =
     rw (le-leb 3 (length (v .payload)) (omega (arith, ap length p)))
-    (by-act (controlled v) (λ b. Iso.positiveResponse (Iso.controlFields h l b)) (λ b. rw p) refusal-code (outcome (v .limit) (v .given)))
+    (by-act v (controlled v) (λ b. Iso.positiveResponse (Iso.controlFields h l b)) (λ b. rw p) (outcome (v .limit) (v .given)))
 
 -- transferData: the act's code, or the counter and the act's bytes
 pub transfer-data : (v : Seen) (counter : ℕ) (rest : List ℕ) → v .payload ≡ counter ∷ rest
-    → answer (service36 v) ≡ some (acted (λ b. Iso.positiveResponse (Iso.transferFields counter b)) (outcome (v .limit) (v .given)))
-unfolding service36 transferred
+    → answer (service36 v) ≡ some (decided (λ b. Iso.positiveResponse (Iso.transferFields counter b)) (outcome (v .limit) (v .given)))
+unfolding service36
 transfer-data v counter rest p =
     rw (le-leb 1 (length (v .payload)) (omega (arith, ap length p)))
-    (by-act (transferred v) (λ b. Iso.positiveResponse (Iso.transferFields counter b)) (λ b. rw p) refusal-code (outcome (v .limit) (v .given)))
+    (by-act v (transferred v) (λ b. Iso.positiveResponse (Iso.transferFields counter b)) (λ b. rw p) (outcome (v .limit) (v .given)))
 
 -- requestDownload, requestTransferExit, requestFileTransfer: the act's code, or its bytes, which are the fields
 module _ (v : Seen) where
-  passed-on : (o : Outcome) → responseOf (passed v o .reply) ≡ some (acted Iso.positiveResponse o)
-  unfolding passed
-  passed-on o = by-act (passed v) Iso.positiveResponse (λ b. refl) refusal-code o
+  passed-on : (o : Outcome) → responseOf (acted v positive o .reply) ≡ some (decided Iso.positiveResponse o)
+  passed-on o = by-act v positive Iso.positiveResponse (λ b. refl) o
 
   pub request-download : 3 ≤ length (v .payload) → 2 + addressLength (v .payload) + sizeLength (v .payload) ≤ length (v .payload)
-      → answer (service34 v) ≡ some (acted Iso.positiveResponse (outcome maxDownload (v .given)))
+      → answer (service34 v) ≡ some (decided Iso.positiveResponse (outcome maxDownload (v .given)))
   unfolding service34
   request-download h k = rw (le-leb 3 (length (v .payload)) h, le-leb _ _ k) (passed-on (outcome maxDownload (v .given)))
 
-  pub transfer-exit : answer (service37 v) ≡ some (acted Iso.positiveResponse (outcome (v .limit) (v .given)))
+  pub transfer-exit : answer (service37 v) ≡ some (decided Iso.positiveResponse (outcome (v .limit) (v .given)))
   unfolding service37
   transfer-exit = passed-on (outcome (v .limit) (v .given))
 
-  pub file-transfer : 3 ≤ length (v .payload) → answer (service38 v) ≡ some (acted Iso.positiveResponse (outcome (v .limit) (v .given)))
+  pub file-transfer : 3 ≤ length (v .payload) → answer (service38 v) ≡ some (decided Iso.positiveResponse (outcome (v .limit) (v .given)))
   unfolding service38
   file-transfer h = rw (le-leb 3 (length (v .payload)) h) (passed-on (outcome (v .limit) (v .given)))

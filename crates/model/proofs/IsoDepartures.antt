@@ -15,21 +15,21 @@ use Rattle.model.specs.Values.{Given, given0, Table, emptyTable, rowValu
 use Rattle.model.specs.Frame.{Frame, response}
 use Rattle.model.specs.State.{State, Subscription, freshSecurity, physical, valid, securityValid, withRecords, withPending}
 use Rattle.model.specs.Reply.{refusal, queued, withheld, refused, confirmed, begun, replied}
-use Rattle.model.specs.Service.{part, changedAfter, apply}
+use Rattle.model.specs.Service.{part, acted, changedAfter, apply}
 use Rattle.model.specs.Service3E.{service3E}
 use Rattle.model.specs.Service10.{sessionControl, service10}
 use Rattle.model.specs.Service11.{reset, service11}
 use Rattle.model.specs.Service27.{seedGiven, seedAsked, requestSeed, sendKey, securityAccess, service27}
 use Rattle.model.specs.Service22.{readValue, readOne, service22}
 use Rattle.model.specs.Service2A.{transmission, service2A}
-use Rattle.model.specs.Service28.{communication, service28}
-use Rattle.model.specs.Service2F.{controlled, service2F}
-use Rattle.model.specs.Service34.{passed, service34}
+use Rattle.model.specs.Service28.{service28}
+use Rattle.model.specs.Service2F.{service2F}
+use Rattle.model.specs.Service34.{service34}
 use Rattle.model.specs.Service37.{service37}
 use Rattle.model.specs.Service38.{service38}
 use Rattle.model.specs.Request.{Request, service, guarded, heard, addressed, routed, request}
 use Rattle.model.specs.Pending.{completed, failed, complete, fail}
-use Rattle.model.specs.Tick.{s3, refreshed, passOne, dispatched, thenPeriodic, tick}
+use Rattle.model.specs.Tick.{s3, refreshed, passOne, thenPeriodic, tick}
 use Rattle.model.specs.Fixed.{fixedConfig, fixedDid}
 
 -- a configuration with other sessions, identifiers or levels
@@ -262,7 +262,7 @@ agrees c = alike sameFrame (c .ours) (c .standards)
 
 -- in every case the definition sends what stands there, and that is not what the standard sends
 pub departs : (map sends cases ≡ map ours cases) × (map agrees cases ≡ replicate (length cases) false)
-unfolding request valid within securityValid addressed routed heard guarded service service3E service10 sessionControl service11 reset service27 securityAccess requestSeed seedAsked seedGiven sendKey service22 readOne readValue rowValue service2A transmission enter service28 communication service2F controlled service34 passed service37 service38 part outcome refusal apply changedAfter replied confirmed refused withheld begun queued response
+unfolding request valid within securityValid addressed routed heard guarded service service3E service10 sessionControl service11 reset service27 securityAccess requestSeed seedAsked seedGiven sendKey service22 readOne readValue rowValue service2A transmission enter service28 service2F service34 acted service37 service38 part outcome refusal apply changedAfter replied confirmed refused withheld begun queued response
 departs = (refl, refl)
 
 -- the high nibble of the format is taken for the address's length: of 34 00 12 AA BB CC the address is AA and the size BB CC, where the standard's are AA BB and CC
@@ -293,12 +293,12 @@ watched = withRecords (serverIn fixedConfig 3 0) (serverIn fixedConfig 3 0 .sess
 
 pub subscriptions-outlive : (tick maxFrame watched 5001 emptyTable .step .state .session .sessionType ≡ Iso.defaultSession)
     × (tick maxFrame watched 5001 emptyTable .step .state .periodic ≡ watched .periodic)
-unfolding tick valid within securityValid s3 refreshed passOne dispatched thenPeriodic
+unfolding tick valid within securityValid s3 refreshed passOne thenPeriodic
 subscriptions-outlive = (refl, refl)
 
 -- S3 runs while a request is pending, where the standard stops it: the session ends under the request
 pub s3-while-pending : (tick maxFrame busy 5001 emptyTable .step .state .session .sessionType ≡ Iso.defaultSession) × (tick maxFrame busy 5001 emptyTable .step .state .pending ≡ busy .pending)
-unfolding tick valid within securityValid s3 refreshed dispatched thenPeriodic
+unfolding tick valid within securityValid s3 refreshed thenPeriodic
 s3-while-pending = (refl, refl)
 
 -- a reset that was pending is answered, and the session stays, where the standard's is the default one

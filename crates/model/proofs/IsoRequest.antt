@@ -15,8 +15,8 @@ use Rattle.model.specs.Config.{ServiceConfig, findService, allowedIn}
 use Rattle.model.specs.Values.{Outcome, bytes, error}
 use Rattle.model.specs.Frame.{sidOf}
 use Rattle.model.specs.State.{AddressMode, PendingRequest, State, Step, step, valid, received}
-use Rattle.model.specs.Reply.{negative, queued, replied}
-use Rattle.model.specs.Service.{Seen, Effect, Served, apply, changed, changedAfter}
+use Rattle.model.specs.Reply.{Reply, queued, replied}
+use Rattle.model.specs.Service.{Seen, Effect, Served, acted, apply, changed, changedAfter}
 use Rattle.model.specs.Request.{Request, seen, service, guarded, served, carried, heard, addressed, routed, request}
 use Rattle.model.specs.Service10.{service10}
 use Rattle.model.specs.Service11.{service11}
@@ -28,21 +28,21 @@ use Rattle.model.specs.Service2E.{service2E}
 use Rattle.model.specs.Service2F.{service2F}
 use Rattle.model.specs.Service31.{service31}
 use Rattle.model.specs.Service36.{service36}
-use Rattle.model.proofs.IsoFrames.{responseOf, to, functionally, answered}
+use Rattle.model.proofs.IsoFrames.{responseOf, to, functionally, answered, refusal-code}
 
 -- a service's answer, in the standard's words
 abbrev pub answer : Served → Option Iso.Response
 answer a = responseOf (a .effect .reply)
 
 -- an answer that an act decides: what its bytes make, or its code
-abbrev pub acted : (List ℕ → Iso.Response) → Outcome → Iso.Response
-acted f (bytes b) = f b
-acted f (error code) = Iso.negativeResponse code
+abbrev pub decided : (List ℕ → Iso.Response) → Outcome → Iso.Response
+decided f (bytes b) = f b
+decided f (error code) = Iso.negativeResponse code
 
-pub by-act : (e : Outcome → Effect) (f : List ℕ → Iso.Response) → ((b : List ℕ) → responseOf (e (bytes b) .reply) ≡ some (f b))
-    → ((code : ℕ) → responseOf (e (error code) .reply) ≡ some (Iso.negativeResponse code)) → (o : Outcome) → responseOf (e o .reply) ≡ some (acted f o)
-by-act e f h k (bytes b) = h b
-by-act e f h k (error code) = k code
+pub by-act : (v : Seen) (k : List ℕ → Reply) (f : List ℕ → Iso.Response) → ((b : List ℕ) → responseOf (k b) ≡ some (f b)) → (o : Outcome) → responseOf (acted v k o .reply) ≡ some (decided f o)
+unfolding acted
+by-act v k f h (bytes b) = h b
+by-act v k f h (error code) = refusal-code code
 
 -- a request that comes as far as the services: the state is valid, the frame is for this server, none is pending, and its length fits
 pub record Arrives (limit : ℕ) (s : State) (r : Request) (m : AddressMode) : Type 0 where

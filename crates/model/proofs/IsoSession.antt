@@ -10,15 +10,15 @@ use lib.ListN.{length}
 use borrow.Author.Tests.{le-ltb, le-leb}
 use Rattle.model.specs.Iso
 use Rattle.model.specs.Config.{SessionConfig, findSession}
-use Rattle.model.specs.Values.{bytes, outcome}
+use Rattle.model.specs.Values.{Outcome, bytes, error, outcome}
 use Rattle.model.specs.Service.{Seen}
 use Rattle.model.specs.Service10.{timings, sessionControl, service10}
 use Rattle.model.specs.Service11.{reset, service11}
 use Rattle.model.specs.Service28.{communication, service28}
 use Rattle.model.specs.Service31.{routine, service31}
 use Rattle.model.specs.Service3E.{service3E}
-use Rattle.model.proofs.IsoFrames.{suppress-bit, suppressing, refusal-code, two-bytes}
-use Rattle.model.proofs.IsoRequest.{answer, acted, by-act}
+use Rattle.model.proofs.IsoFrames.{responseOf, suppress-bit, suppressing, refusal-code, two-bytes}
+use Rattle.model.proofs.IsoRequest.{answer, decided, by-act}
 
 -- the session parameter record: P2 in ms and P2* in 10 ms, each as its low 16 bits
 pub session-fields : (x : ℕ) (row : SessionConfig) → timings x (some row) ≡ Iso.sessionFields x (row .p2 % 65536) (row .p2Ext / 10 % 65536)
@@ -59,11 +59,13 @@ module _ (v : Seen) (sub : ℕ) (rest : List ℕ) (p : v .payload ≡ sub ∷ re
   Echo b = Iso.unlessSuppressed sub (Iso.valueFields (Iso.subFunctionValue sub))
 
   -- ecuReset: the act's code, suppressed or not; or the type echoed, unless suppressed
-  pub ecu-reset : answer (service11 v) ≡ some (acted Echo (outcome (v .limit) (v .given)))
+  pub ecu-reset : answer (service11 v) ≡ some (decided Echo (outcome (v .limit) (v .given)))
   unfolding service11 reset
-  ecu-reset =
-      rw (le-ltb (length (v .payload)) 1 (omega (arith, ap length p)))
-      (by-act (reset v) Echo (λ b. rw (p, suppress-bit sub byte) (suppressing Bit (sub % 128 ∷ []))) refusal-code (outcome (v .limit) (v .given)))
+  ecu-reset = rw (le-ltb (length (v .payload)) 1 (omega (arith, ap length p))) (go (outcome (v .limit) (v .given)))
+    where
+      go : (o : Outcome) → responseOf (reset v o .reply) ≡ some (decided Echo o)
+      go (bytes b) = rw (p, suppress-bit sub byte) (suppressing Bit (sub % 128 ∷ []))
+      go (error code) = refusal-code code
 
   -- and once it is allowed, the session is the default one, locked
   pub reset-session : (b : List ℕ) → outcome (v .limit) (v .given) ≡ bytes b
@@ -72,19 +74,19 @@ module _ (v : Seen) (sub : ℕ) (rest : List ℕ) (p : v .payload ≡ sub ∷ re
   reset-session b o = rw (o, p, le-ltb (suc (length rest)) 1 (omega arith)) (refl, refl)
 
   -- communicationControl: the same with the control type
-  pub communication-control : 2 ≤ length (v .payload) → answer (service28 v) ≡ some (acted Echo (outcome (v .limit) (v .given)))
-  unfolding service28 communication
+  pub communication-control : 2 ≤ length (v .payload) → answer (service28 v) ≡ some (decided Echo (outcome (v .limit) (v .given)))
+  unfolding service28
   communication-control h =
       rw (le-leb 2 (length (v .payload)) h)
-      (by-act (communication v) Echo (λ b. rw (p, suppress-bit sub byte) (suppressing Bit (sub % 128 ∷ []))) refusal-code (outcome (v .limit) (v .given)))
+      (by-act v (communication v) Echo (λ b. rw (p, suppress-bit sub byte) (suppressing Bit (sub % 128 ∷ []))) (outcome (v .limit) (v .given)))
 
   -- routineControl: the value, the routine's identifier and the act's bytes, unless suppressed
   module _ (h l : ℕ) (more : List ℕ) (e : rest ≡ h ∷ l ∷ more) where
     abbrev Routine : List ℕ → Iso.Response
     Routine b = Iso.unlessSuppressed sub (Iso.routineFields (Iso.subFunctionValue sub) h l b)
 
-    pub routine-control : answer (service31 v) ≡ some (acted Routine (outcome (v .limit) (v .given)))
-    unfolding service31 routine
+    pub routine-control : answer (service31 v) ≡ some (decided Routine (outcome (v .limit) (v .given)))
+    unfolding service31
     routine-control =
         rw (le-leb 3 (length (v .payload)) (omega (arith, ap length p, ap length e)))
-        (by-act (routine v) Routine (λ b. rw (p, e, suppress-bit sub byte) (suppressing Bit (sub % 128 ∷ h ∷ l ∷ b))) refusal-code (outcome (v .limit) (v .given)))
+        (by-act v (routine v) Routine (λ b. rw (p, e, suppress-bit sub byte) (suppressing Bit (sub % 128 ∷ h ∷ l ∷ b))) (outcome (v .limit) (v .given)))

@@ -16,7 +16,7 @@ use Rattle.model.specs.Values.{bytes, Table, value}
 use Rattle.model.specs.Frame.{negativeFrame}
 use Rattle.model.specs.State.{State, Step, step, Subscription, PendingRequest, valid, withPending, withQueue}
 use Rattle.model.specs.Reply.{queued, pends, replied, begun}
-use Rattle.model.specs.Tick.{s3, postponed, refreshed, Passed, passOne, dueSent, periodic, dispatched, thenPeriodic, tick}
+use Rattle.model.specs.Tick.{s3, postponed, refreshed, Passed, passOne, dueSent, periodic, thenPeriodic, tick}
 use Rattle.model.specs.Pending.{completed, failed, complete, fail}
 use Rattle.model.proofs.IsoFrames.{to, confirms}
 
@@ -49,7 +49,7 @@ still s = record { config = s .config; session = s .session; security = s .secur
 -- a tick does S3 and pending, and what follows changes subscriptions and queue alone
 pub ticks : (limit : ℕ) (s : State) (now : Moment) (t : Table) → valid limit s ≡ true → now ≤ maxTime
     → still (tick limit s now t .step .state) ≡ still (refreshed (s3 s now) now (s .pending) .state)
-unfolding tick thenPeriodic dispatched
+unfolding tick thenPeriodic
 ticks limit s now t v h = rw (v, le-leb _ _ h) (go (refreshed (s3 s now) now (s .pending)) (eqb (refreshed (s3 s now) now (s .pending) .result) 0))
   where
     go : (p : Step) (b : Bool) → still (pick b (periodic limit now t (p .state)) (record { err = 0; step = p }) .step .state) ≡ still (p .state)

@@ -1,7 +1,7 @@
 -- The fixed configuration of `udstrace`.
 use Prim.Native.Nat.{ℕ}
 use mathlib.Core.List.{List, [], _∷_, map}
-use Rattle.model.specs.Config.{SessionConfig, ServiceConfig, DidConfig, SecurityLevelConfig, Config}
+use Rattle.model.specs.Config.{SessionConfig, ServiceConfig, DidConfig, Config}
 
 -- sessions 1 and 3
 abbrev pub both : List ℕ

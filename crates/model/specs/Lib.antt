@@ -28,3 +28,4 @@ pub mod Drain
 pub mod History
 pub mod Fixed
 pub mod Iso
+pub mod Alike

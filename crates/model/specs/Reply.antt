@@ -8,7 +8,7 @@ use lib.Dec.{eqb, leb, ltb}
 use Rattle.model.specs.Tests.{pick, memb}
 use Rattle.model.specs.Numbers.{Moment, maxOutbox}
 use Rattle.model.specs.Config.{findSession, p2ExtOf}
-use Rattle.model.specs.Frame.{Frame, positiveFrame, negativeFrame}
+use Rattle.model.specs.Frame.{positiveFrame, negativeFrame}
 use Rattle.model.specs.State.{AddressMode, physical, functional, State, Step, step, withQueue, withPending}
 
 -- nothing; a positive payload; a negative code; one that is sent however the request was addressed; or the request becomes pending

@@ -1,14 +1,14 @@
 -- What a service sees, which act it asks, and what it wants: an effect, which one function carries out.
 use Prim.Native.Nat.{ℕ}
-use mathlib.Core.Bool.{Bool, true, false}
-use mathlib.Core.List.{List, [], _∷_}
+use mathlib.Core.Bool.{Bool, false}
+use mathlib.Core.List.{List, []}
 use lib.Dec.{eqb}
 use Rattle.model.specs.Tests.{pick}
 use Rattle.model.specs.Numbers.{Moment}
 use Rattle.model.specs.Config.{Config}
-use Rattle.model.specs.Values.{Given, Table}
+use Rattle.model.specs.Values.{Outcome, bytes, error, Given, Table}
 use Rattle.model.specs.State.{Session, Security, Subscription, State, Step, step, withRecords}
-use Rattle.model.specs.Reply.{Reply, negative, replied}
+use Rattle.model.specs.Reply.{Reply, negative, refusal, replied}
 
 -- what a service sees: the frame limit, the configuration, the three records that it may change, and the request
 pub record Seen : Type 0 where
@@ -75,6 +75,11 @@ refuses v code = answers (says v (negative code))
 -- an act asked
 abbrev pub asks : ℕ → List Part → Effect → Served
 asks sid ps e = record { act = record { number = sid; arguments = ps }; effect = e }
+
+-- an act's bytes make the reply; an error byte from an act is sent as the negative code
+unfoldable pub acted : Seen → (List ℕ → Reply) → Outcome → Effect
+acted v k (bytes b) = says v (k b)
+acted v k (error code) = says v (refusal code)
 
 -- the three records of an effect, taken into the state
 abbrev pub changed : State → Effect → State

@@ -1,7 +1,7 @@
 -- 10 diagnosticSessionControl: opens a session.
 use Prim.Native.Nat.{ℕ, _/_}
 use mathlib.Core.Bool.{false}
-use mathlib.Core.List.{List, [], _∷_, _++_}
+use mathlib.Core.List.{List, _∷_, _++_}
 use mathlib.Core.Option.{Option, some, none}
 use lib.ListN.{length}
 use lib.Dec.{ltb}

@@ -7,7 +7,7 @@ use mathlib.Core.Option.{Option, some, none}
 use lib.ListN.{length}
 use lib.Dec.{eqb, leb, ltb}
 use Rattle.model.specs.Tests.{pick, first, changeFirst, enter}
-use Rattle.model.specs.Numbers.{Moment, Span, maxLevels, maxSeed}
+use Rattle.model.specs.Numbers.{Moment, maxLevels, maxSeed}
 use Rattle.model.specs.Config.{SecurityLevelConfig, findLevel, maxAttemptsOf, lockoutOf}
 use Rattle.model.specs.Values.{Outcome, bytes, error, outcome}
 use Rattle.model.specs.Frame.{subFunction}

@@ -7,10 +7,10 @@ use lib.ListN.{length, getD}
 use lib.Dec.{leb}
 use Rattle.model.specs.Tests.{pick}
 use Rattle.model.specs.Numbers.{maxDownload}
-use Rattle.model.specs.Values.{Outcome, bytes, error, outcome}
+use Rattle.model.specs.Values.{outcome}
 use Rattle.model.specs.Frame.{highNibble, lowNibble}
-use Rattle.model.specs.Reply.{Reply, positive, refusal}
-use Rattle.model.specs.Service.{Seen, Effect, Served, says, refuses, asks, part}
+use Rattle.model.specs.Reply.{positive}
+use Rattle.model.specs.Service.{Seen, Served, refuses, asks, acted, part}
 
 abbrev pub addressLength : List ℕ → ℕ
 addressLength p = highNibble (getD p 1 0)
@@ -18,13 +18,8 @@ addressLength p = highNibble (getD p 1 0)
 abbrev pub sizeLength : List ℕ → ℕ
 sizeLength p = lowNibble (getD p 1 0)
 
--- the act's bytes are the reply: so in 37 and 38 too
-unfoldable pub passed : Seen → Outcome → Effect
-passed v (bytes b) = says v (positive b)
-passed v (error code) = says v (refusal code)
-
 unfoldable pub service34 : Seen → Served
 service34 v =
     pick (leb 3 (length (v .payload)) && leb (2 + addressLength (v .payload) + sizeLength (v .payload)) (length (v .payload)))
-    (asks 0x34 (part 1 1 ∷ part 3 (addressLength (v .payload)) ∷ part (3 + addressLength (v .payload)) (sizeLength (v .payload)) ∷ []) (passed v (outcome maxDownload (v .given))))
+    (asks 0x34 (part 1 1 ∷ part 3 (addressLength (v .payload)) ∷ part (3 + addressLength (v .payload)) (sizeLength (v .payload)) ∷ []) (acted v positive (outcome maxDownload (v .given))))
     (refuses v 0x13)

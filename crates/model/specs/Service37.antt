@@ -2,8 +2,8 @@
 use mathlib.Core.List.{[], _∷_}
 use lib.ListN.{length}
 use Rattle.model.specs.Values.{outcome}
-use Rattle.model.specs.Service.{Seen, Served, asks, part}
-use Rattle.model.specs.Service34.{passed}
+use Rattle.model.specs.Reply.{positive}
+use Rattle.model.specs.Service.{Seen, Served, asks, acted, part}
 
 unfoldable pub service37 : Seen → Served
-service37 v = asks 0x37 (part 1 (length (v .payload)) ∷ []) (passed v (outcome (v .limit) (v .given)))
+service37 v = asks 0x37 (part 1 (length (v .payload)) ∷ []) (acted v positive (outcome (v .limit) (v .given)))

@@ -7,12 +7,12 @@ use lib.Dec.{leb}
 use Rattle.model.specs.Tests.{pick}
 use Rattle.model.specs.Values.{outcome}
 use Rattle.model.specs.Frame.{word}
-use Rattle.model.specs.Service.{Seen, Served, refuses, asks, part}
-use Rattle.model.specs.Service34.{passed}
+use Rattle.model.specs.Reply.{positive}
+use Rattle.model.specs.Service.{Seen, Served, refuses, asks, acted, part}
 
 abbrev pub pathLength : List ℕ → ℕ
 pathLength p = pick (leb (3 + word p 1) (length p)) (word p 1) 0
 
 unfoldable pub service38 : Seen → Served
 service38 v =
-    pick (leb 3 (length (v .payload))) (asks 0x38 (part 1 1 ∷ part 4 (pathLength (v .payload)) ∷ []) (passed v (outcome (v .limit) (v .given)))) (refuses v 0x13)
+    pick (leb 3 (length (v .payload))) (asks 0x38 (part 1 1 ∷ part 4 (pathLength (v .payload)) ∷ []) (acted v positive (outcome (v .limit) (v .given)))) (refuses v 0x13)

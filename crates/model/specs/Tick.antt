@@ -10,7 +10,7 @@ use Rattle.model.specs.Numbers.{Moment, maxOutbox, maxTime}
 use Rattle.model.specs.Config.{findSession, s3Of, p2ExtOf}
 use Rattle.model.specs.Values.{Outcome, bytes, error, Table, value}
 use Rattle.model.specs.Frame.{Frame, negativeFrame}
-use Rattle.model.specs.State.{Session, Subscription, PendingRequest, State, Step, step, valid, withPending, withRecords, opened, cleared}
+use Rattle.model.specs.State.{Subscription, PendingRequest, State, Step, step, valid, withPending, withRecords, opened, cleared}
 use Rattle.model.specs.Reply.{queued}
 
 -- S3: the session is not 1 and now minus last_rx is above s3 (a clock that went back is not above)
@@ -80,11 +80,15 @@ pub record Ticked : Type 0 where
 abbrev pub withPassed : State → Passed → State
 withPassed s a = record { config = s .config; session = s .session; security = s .security; periodic = a .entries; pending = s .pending; mode = s .mode; queue = a .queue }
 
-unfoldable pub dispatched : ℕ → Moment → Table → State → Passed → Ticked
-dispatched limit now t s a = record { err = a .err; step = step (a .result) (withPassed s a) }
+abbrev pub dispatched : State → Passed → Ticked
+dispatched s a = record { err = a .err; step = step (a .result) (withPassed s a) }
+
+-- at the start no entry is passed
+abbrev pub begins : State → Passed
+begins s = record { result = 0; err = 0; entries = []; queue = s .queue }
 
 abbrev pub periodic : ℕ → Moment → Table → State → Ticked
-periodic limit now t s = dispatched limit now t s (passAll limit now t (s .periodic) (record { result = 0; err = 0; entries = []; queue = s .queue }))
+periodic limit now t s = dispatched s (passAll limit now t (s .periodic) (begins s))
 
 -- result 3 of the pending step ends the tick
 unfoldable pub thenPeriodic : ℕ → Moment → Table → Step → Ticked
