@@ -1,18 +1,19 @@
 -- Which kinds of answer each service can give: only those with a sub-function are ever silent, and only 2A sends a code whatever the addressing.
-use Prim.Native.Nat.{ℕ, _%_, _-_, _+_}
-use mathlib.Core.Path.{_≡_, refl}
+use Prim.Native.Nat.{ℕ, _%_, _-_, _+_, _<_}
+use mathlib.Core.Path.{_≡_, refl, _∙_, ap}
 use mathlib.Core.Bool.{true, false, _&&_, false≢true}
 use mathlib.Core.List.{List, [], _∷_, _++_}
 use mathlib.Core.Option.{Option, some, none}
+use native.Mathlib.Omega.{arith}
 use lib.ListN.{length, getD, drop}
 use lib.Dec.{eqb, leb, ltb}
 use Rattle.model.specs.Iso
 use Rattle.model.specs.Tests.{pick}
-use Rattle.model.specs.Numbers.{maxSeed, maxDownload}
-use Rattle.model.specs.Config.{SessionConfig, SecurityLevelConfig, findSession, findDid, findLevel, readable, writable, maxAttemptsOf, lockoutOf}
+use Rattle.model.specs.Numbers.{maxOutbox, maxSeed, maxDownload}
+use Rattle.model.specs.Config.{ServiceConfig, findService, allowedIn, SessionConfig, SecurityLevelConfig, findSession, findDid, findLevel, readable, writable, maxAttemptsOf, lockoutOf}
 use Rattle.model.specs.Values.{Outcome, bytes, error, outcome}
-use Rattle.model.specs.Frame.{suppressed, subFunction, periodicDid, word}
-use Rattle.model.specs.State.{Failed, Lock, Subscription}
+use Rattle.model.specs.Frame.{sidOf, suppressed, subFunction, periodicDid, word}
+use Rattle.model.specs.State.{AddressMode, State, Failed, Lock, Subscription, received}
 use Rattle.model.specs.Reply.{Reply, silent, positive, negative, always, pends, refusal}
 use Rattle.model.specs.Service.{Seen, Effect, Served, acted}
 use Rattle.model.specs.Service3E.{service3E}
@@ -29,10 +30,10 @@ use Rattle.model.specs.Service34.{addressLength, sizeLength, service34}
 use Rattle.model.specs.Service36.{transferred, service36}
 use Rattle.model.specs.Service37.{service37}
 use Rattle.model.specs.Service38.{service38}
-use Rattle.model.specs.Request.{service}
+use Rattle.model.specs.Request.{Request, seen, service, served, request}
 use Rattle.model.proofs.Laws.{either}
-use Rattle.model.proofs.IsoFrames.{responseOf}
-use Rattle.model.proofs.IsoRequest.{answer}
+use Rattle.model.proofs.IsoFrames.{responseOf, to, functionally, every-map, every-both}
+use Rattle.model.proofs.IsoRequest.{answer, Arrives, serves, responds}
 use Rattle.model.proofs.IsoData.{Ends, ends-all}
 
 -- a reply that is neither silent nor sent whatever the addressing
@@ -330,3 +331,33 @@ thirteen-answer = (
     ),
   ),
 )
+
+-- a request for a service, which its configuration allows in the session, and which finds room in the queue
+pub record Allowed (sid limit : ℕ) (s : State) (r : Request) (m : AddressMode) : Type 0 where
+  pub arrives : Arrives limit s r m
+  pub named : sidOf (r .inbound .frame) ≡ sid
+  pub row : ServiceConfig
+  pub configured : findService (s .config) sid ≡ some row
+  pub allowed : allowedIn (s .session .sessionType) row ≡ true
+  pub room : length (s .queue) < maxOutbox
+
+-- its service has an answer in the standard's words, and what is sent, to the sender, is what the standard sends for that answer
+pub record Responds (sid limit : ℕ) (s : State) (r : Request) (m : AddressMode) : Type 0 where
+  pub response : Iso.Response
+  pub answered : answer (service sid (seen limit (received s m (r .inbound .time)) r)) ≡ some response
+  pub sent : request limit s r .step .state .queue ≡ s .queue ++ to (r .inbound .src) (Iso.messages (functionally m) limit sid response)
+
+pub thirteen-respond : Iso.Every (λ sid. (limit : ℕ) (s : State) (r : Request) (m : AddressMode) → Allowed sid limit s r m → Responds sid limit s r m) butPeriodic
+thirteen-respond = every-map one butPeriodic (every-both (λ sid. sid < 64) (λ sid. Answers (service sid)) butPeriodic (omega arith) thirteen-answer)
+  where
+    one : (sid : ℕ) → (sid < 64) × Answers (service sid) → (limit : ℕ) (s : State) (r : Request) (m : AddressMode) → Allowed sid limit s r m → Responds sid limit s r m
+    one sid h limit s r m c = record { response = a .0; answered = a .1; sent = rw (c .named) at (responds limit s r m (c .arrives) (c .room) small (a .0) found) }
+      where
+        a : (x : Iso.Response) × (answer (service sid (seen limit (received s m (r .inbound .time)) r)) ≡ some x)
+        a = h .1 (seen limit (received s m (r .inbound .time)) r)
+
+        small : sidOf (r .inbound .frame) < 64
+        small = rw (c .named) (h .0)
+
+        found : answer (served limit (received s m (r .inbound .time)) r) ≡ some (a .0)
+        found = ap answer (serves limit s r m (c .arrives) (c .row) (rw (c .named) (c .configured)) (c .allowed)) ∙ rw (c .named) (a .1)

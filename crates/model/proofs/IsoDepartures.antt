@@ -281,12 +281,6 @@ pub stop-all : request maxFrame crowded (asks (0x2A ∷ 0x04 ∷ [])) .step .sta
 unfolding request valid within securityValid addressed routed heard guarded service service2A transmission apply replied confirmed queued response
 stop-all = refl
 
--- a refused list keeps the subscriptions before the refusal
-pub refused-list : request maxFrame (serverIn fixedConfig 3 0) (asks (0x2A ∷ 0x01 ∷ 0x01 ∷ 0x05 ∷ [])) .step .state .periodic
-    ≡ record { identifier = 0xF201; client = client; interval = 2000; next = 2100 } ∷ []
-unfolding request valid within securityValid addressed routed heard guarded service service2A transmission enter apply replied refused withheld queued
-refused-list = refl
-
 -- subscriptions outlive their session, where the standard stops them: here it ends by S3
 abbrev watched : State
 watched = withRecords (serverIn fixedConfig 3 0) (serverIn fixedConfig 3 0 .session) freshSecurity (subscribed client ∷ [])

@@ -20,9 +20,14 @@ pub positive-identifier : (sid : ℕ) → sid < 64 → (fields : List ℕ) → p
 unfolding response
 positive-identifier sid h fields = rw (lt-ltb (sid % 128) 64 (omega arith))
 
-every-map : {A : Type 0} {P Q : A → Type 0} → ((a : A) → P a → Q a) → (l : List A) → Iso.Every P l → Iso.Every Q l
+-- a property of every element, from another; and two at once
+pub every-map : {A : Type 0} {P Q : A → Type 0} → ((a : A) → P a → Q a) → (l : List A) → Iso.Every P l → Iso.Every Q l
 every-map f [] h = tt
 every-map f (a ∷ l) h = (f a (h .0), every-map f l (h .1))
+
+pub every-both : {A : Type 0} (P Q : A → Type 0) (l : List A) → Iso.Every P l → Iso.Every Q l → Iso.Every (λ a. P a × Q a) l
+every-both P Q [] h k = tt
+every-both P Q (a ∷ l) h k = ((h .0, k .0), every-both P Q l (h .1) (k .1))
 
 pub fourteen-identifiers : Iso.Every (λ sid. (fields : List ℕ) → positiveFrame sid fields ≡ Iso.positive sid fields) Iso.services
 fourteen-identifiers = every-map {P = λ sid. sid < 64} positive-identifier Iso.services (omega arith)

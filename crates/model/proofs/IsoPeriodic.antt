@@ -18,7 +18,7 @@ use Rattle.model.specs.Reply.{negative}
 use Rattle.model.specs.Service.{Seen, Effect, schedules}
 use Rattle.model.specs.Service2A.{rateOf, isSubscription, subscription, renewed, register, intervalFor, registered, registerAll, cancelAll, transmission, service2A}
 use Rattle.model.proofs.Laws.{left, both}
-use Rattle.model.proofs.IsoEnter.{Found, entered, kept}
+use Rattle.model.proofs.IsoEnter.{Entry, entered, kept}
 use Rattle.model.proofs.IsoFrames.{responseOf}
 use Rattle.model.proofs.IsoRequest.{answer}
 
@@ -36,7 +36,7 @@ Timed v mode x e = (e .interval ≡ intervalFor v (rateOf mode) x) × (e .next �
 
 -- x is so subscribed for the asking client
 abbrev pub Subscribed : Seen → ℕ → List Subscription → ℕ → Type 0
-Subscribed v mode t x = Found (isSubscription x (v .src)) (Timed v mode x) t
+Subscribed v mode t x = Entry (isSubscription x (v .src)) (Timed v mode x) t
 
 module _ (v : Seen) (mode : ℕ) where
   abbrev every : ℕ → Span

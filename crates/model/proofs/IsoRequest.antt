@@ -28,6 +28,7 @@ use Rattle.model.specs.Service2E.{service2E}
 use Rattle.model.specs.Service2F.{service2F}
 use Rattle.model.specs.Service31.{service31}
 use Rattle.model.specs.Service36.{service36}
+use Rattle.model.proofs.Edges.{busy-first}
 use Rattle.model.proofs.IsoFrames.{responseOf, to, functionally, answered, refusal-code}
 
 -- a service's answer, in the standard's words
@@ -120,8 +121,8 @@ not-served sid v n = rw (ne 0x3E refl, ne 0x10 refl, ne 0x11 refl, ne 0x27 refl,
 pub busy : (limit : ℕ) (s : State) (r : Request) (m : AddressMode) (p : PendingRequest)
     → valid limit s ≡ true → r .inbound .time ≤ maxTime → addressed (s .config) (r .inbound .dst) ≡ some m → s .pending ≡ some p → length (s .queue) < maxOutbox
     → request limit s r .step .state .queue ≡ s .queue ++ to (r .inbound .dst) (Iso.negative (sidOf (r .inbound .frame)) Iso.busyRepeatRequest ∷ [])
-unfolding request routed heard queued
-busy limit s r m p h t e f room = rw (h, le-leb _ _ t, e, f, lt-ltb _ _ room)
+unfolding queued
+busy limit s r m p h t e f room = rw (busy-first limit s r m p h t e f, lt-ltb _ _ room)
 
 -- the services that also answer requests which are shorter than the standard's shortest
 abbrev answersShorter : List ℕ
