@@ -8,29 +8,16 @@ use mathlib.Core.Option.{some, none}
 use lib.ListN.{length, replicate}
 use lib.Dec.{eqb}
 use Rattle.model.specs.Iso
-use Rattle.model.specs.Tests.{enter}
 use Rattle.model.specs.Numbers.{maxFrame}
-use Rattle.model.specs.Config.{SessionConfig, DidConfig, SecurityLevelConfig, Config, within}
-use Rattle.model.specs.Values.{Given, given0, Table, emptyTable, rowValue, outcome}
-use Rattle.model.specs.Frame.{Frame, response}
-use Rattle.model.specs.State.{State, Subscription, freshSecurity, physical, valid, securityValid, withRecords, withPending}
-use Rattle.model.specs.Reply.{refusal, queued, withheld, refused, confirmed, begun, replied}
-use Rattle.model.specs.Service.{part, acted, changedAfter, apply}
-use Rattle.model.specs.Service3E.{service3E}
-use Rattle.model.specs.Service10.{sessionControl, service10}
-use Rattle.model.specs.Service11.{reset, service11}
-use Rattle.model.specs.Service27.{seedGiven, seedAsked, requestSeed, sendKey, securityAccess, service27}
-use Rattle.model.specs.Service22.{readValue, readOne, service22}
-use Rattle.model.specs.Service2A.{transmission, service2A}
-use Rattle.model.specs.Service28.{service28}
-use Rattle.model.specs.Service2F.{service2F}
-use Rattle.model.specs.Service34.{service34}
-use Rattle.model.specs.Service37.{service37}
-use Rattle.model.specs.Service38.{service38}
-use Rattle.model.specs.Request.{Request, service, guarded, heard, addressed, routed, request}
-use Rattle.model.specs.Pending.{completed, failed, complete, fail}
-use Rattle.model.specs.Tick.{s3, refreshed, passOne, thenPeriodic, tick}
+use Rattle.model.specs.Config.{SessionConfig, DidConfig, SecurityLevelConfig, Config}
+use Rattle.model.specs.Values.{Given, given0, Table, emptyTable}
+use Rattle.model.specs.Frame.{Frame}
+use Rattle.model.specs.State.{State, Subscription, freshSecurity, physical, withRecords, withPending}
+use Rattle.model.specs.Request.{Request, request}
+use Rattle.model.specs.Pending.{complete, fail}
+use Rattle.model.specs.Tick.{tick}
 use Rattle.model.specs.Fixed.{fixedConfig, fixedDid}
+use Rattle.model.proofs.Open.{whole}
 
 -- a configuration with other sessions, identifiers or levels
 abbrev withSessions : Config → List SessionConfig → Config
@@ -67,9 +54,12 @@ serverIn c session level = record {
 abbrev default : State
 default = serverIn fixedConfig 1 0
 
--- the fixed configuration with seeds of 32 bytes, with a guarded periodic identifier, with a P2 of 70 seconds
+-- the fixed configuration with seeds of 32 bytes, with the level 7F, with a guarded periodic identifier, with a P2 of 70 seconds
 abbrev longSeeds : Config
 longSeeds = withLevels fixedConfig (record { level = 3; maxAttempts = 3; lockout = 10000; seedLength = 32; keyLength = 4 } ∷ [])
+
+abbrev reservedLevel : Config
+reservedLevel = withLevels fixedConfig (record { level = 0x7F; maxAttempts = 3; lockout = 10000; seedLength = 4; keyLength = 4 } ∷ [])
 
 abbrev guardedPeriodic : Config
 guardedPeriodic = withDids fixedConfig (fixedDid 0xF202 3 ∷ [])
@@ -123,15 +113,24 @@ case s r ours standards = record { state = s; request = r; ours = ours; standard
 
 -- testerPresent without its sub-function is answered
 abbrev tester-present-short : Case
-tester-present-short = case default (asks (0x3E ∷ [])) (to client (0x7E ∷ 0x00 ∷ [])) (to client (Iso.negative 0x3E Iso.incorrectMessageLengthOrInvalidFormat))
+tester-present-short =
+    case default (asks (0x3E ∷ []))
+    (to client (0x7E ∷ 0x00 ∷ []))
+    (to client (Iso.negative 0x3E Iso.incorrectMessageLengthOrInvalidFormat))
 
 -- testerPresent echoes a sub-function other than 00
 abbrev tester-present-value : Case
-tester-present-value = case default (asks (0x3E ∷ 0x01 ∷ [])) (to client (0x7E ∷ 0x01 ∷ [])) (to client (Iso.negative 0x3E Iso.subFunctionNotSupported))
+tester-present-value =
+    case default (asks (0x3E ∷ 0x01 ∷ []))
+    (to client (0x7E ∷ 0x01 ∷ []))
+    (to client (Iso.negative 0x3E Iso.subFunctionNotSupported))
 
 -- bytes behind a request are passed over
 abbrev trailing-bytes : Case
-trailing-bytes = case default (asks (0x10 ∷ 0x03 ∷ 0x00 ∷ [])) (to client (0x50 ∷ 0x03 ∷ 0x00 ∷ 0x32 ∷ 0x01 ∷ 0xF4 ∷ [])) (to client (Iso.negative 0x10 Iso.incorrectMessageLengthOrInvalidFormat))
+trailing-bytes =
+    case default (asks (0x10 ∷ 0x03 ∷ 0x00 ∷ []))
+    (to client (0x50 ∷ 0x03 ∷ 0x00 ∷ 0x32 ∷ 0x01 ∷ 0xF4 ∷ []))
+    (to client (Iso.negative 0x10 Iso.incorrectMessageLengthOrInvalidFormat))
 
 -- the response to reset type 04 has no powerDownTime: FF says that none is known
 abbrev power-down-time : Case
@@ -139,15 +138,24 @@ power-down-time = case default (asks (0x11 ∷ 0x04 ∷ [])) (to client (0x51 �
 
 -- communicationControl 04 and 05 need no node number
 abbrev node-number : Case
-node-number = case default (asks (0x28 ∷ 0x04 ∷ 0x01 ∷ [])) (to client (0x68 ∷ 0x04 ∷ [])) (to client (Iso.negative 0x28 Iso.incorrectMessageLengthOrInvalidFormat))
+node-number =
+    case default (asks (0x28 ∷ 0x04 ∷ 0x01 ∷ []))
+    (to client (0x68 ∷ 0x04 ∷ []))
+    (to client (Iso.negative 0x28 Iso.incorrectMessageLengthOrInvalidFormat))
 
 -- reading stops at an identifier that is not supported, though another one is
 abbrev read-first-unsupported : Case
-read-first-unsupported = case default (reads (0x22 ∷ 0xF1 ∷ 0x91 ∷ 0xF2 ∷ 0x01 ∷ []) 0xF201) (to client (Iso.negative 0x22 Iso.requestOutOfRange)) (to client (0x62 ∷ 0xF2 ∷ 0x01 ∷ 0x2A ∷ []))
+read-first-unsupported =
+    case default (reads (0x22 ∷ 0xF1 ∷ 0x91 ∷ 0xF2 ∷ 0x01 ∷ []) 0xF201)
+    (to client (Iso.negative 0x22 Iso.requestOutOfRange))
+    (to client (0x62 ∷ 0xF2 ∷ 0x01 ∷ 0x2A ∷ []))
 
 -- a higher level opens what a lower one guards
 abbrev level-order : Case
-level-order = case (serverIn fixedConfig 3 5) (reads (0x22 ∷ 0xF1 ∷ 0x90 ∷ []) 0xF190) (to client (0x62 ∷ 0xF1 ∷ 0x90 ∷ 0x2A ∷ [])) (to client (Iso.negative 0x22 Iso.securityAccessDenied))
+level-order =
+    case (serverIn fixedConfig 3 5) (reads (0x22 ∷ 0xF1 ∷ 0x90 ∷ []) 0xF190)
+    (to client (0x62 ∷ 0xF1 ∷ 0x90 ∷ 0x2A ∷ []))
+    (to client (Iso.negative 0x22 Iso.securityAccessDenied))
 
 -- securityAccess ignores the suppress bit
 abbrev suppressed-seed : Case
@@ -155,19 +163,31 @@ suppressed-seed = case (serverIn fixedConfig 3 0) (acts (0x27 ∷ 0x83 ∷ []) s
 
 -- a level that is held already is given another seed
 abbrev zero-seed : Case
-zero-seed = case (serverIn fixedConfig 3 3) (acts (0x27 ∷ 0x03 ∷ []) seed) (to client (0x67 ∷ 0x03 ∷ seed)) (to client (0x67 ∷ 0x03 ∷ 0x00 ∷ 0x00 ∷ 0x00 ∷ 0x00 ∷ []))
+zero-seed =
+    case (serverIn fixedConfig 3 3) (acts (0x27 ∷ 0x03 ∷ []) seed)
+    (to client (0x67 ∷ 0x03 ∷ seed))
+    (to client (0x67 ∷ 0x03 ∷ 0x00 ∷ 0x00 ∷ 0x00 ∷ 0x00 ∷ []))
 
 -- a key of an access type that is not configured comes out of sequence
 abbrev unknown-key-type : Case
-unknown-key-type = case (serverIn fixedConfig 3 0) (asks (0x27 ∷ 0x02 ∷ [])) (to client (Iso.negative 0x27 Iso.requestSequenceError)) (to client (Iso.negative 0x27 Iso.subFunctionNotSupported))
+unknown-key-type =
+    case (serverIn fixedConfig 3 0) (asks (0x27 ∷ 0x02 ∷ []))
+    (to client (Iso.negative 0x27 Iso.requestSequenceError))
+    (to client (Iso.negative 0x27 Iso.subFunctionNotSupported))
 
 -- a seed of 32 bytes is too long
 abbrev seed-of-32 : Case
-seed-of-32 = case (serverIn longSeeds 3 0) (acts (0x27 ∷ 0x03 ∷ []) (replicate 32 1)) (to client (Iso.negative 0x27 Iso.responseTooLong)) (to client (0x67 ∷ 0x03 ∷ replicate 32 1))
+seed-of-32 =
+    case (serverIn longSeeds 3 0) (acts (0x27 ∷ 0x03 ∷ []) (replicate 32 1))
+    (to client (Iso.negative 0x27 Iso.responseTooLong))
+    (to client (0x67 ∷ 0x03 ∷ replicate 32 1))
 
 -- the fixed configuration has securityAccess in the default session
 abbrev default-session : Case
-default-session = case default (acts (0x27 ∷ 0x03 ∷ []) seed) (to client (0x67 ∷ 0x03 ∷ seed)) (to client (Iso.negative 0x27 Iso.serviceNotSupportedInActiveSession))
+default-session =
+    case default (acts (0x27 ∷ 0x03 ∷ []) seed)
+    (to client (0x67 ∷ 0x03 ∷ seed))
+    (to client (Iso.negative 0x27 Iso.serviceNotSupportedInActiveSession))
 
 -- the response to readDataByPeriodicIdentifier carries the mode
 abbrev periodic-mode-echoed : Case
@@ -175,43 +195,101 @@ periodic-mode-echoed = case default (asks (0x2A ∷ 0x04 ∷ [])) (to client (0x
 
 -- modes 01 to 03 need no identifier
 abbrev periodic-no-identifier : Case
-periodic-no-identifier = case default (asks (0x2A ∷ 0x01 ∷ [])) (to client (0x6A ∷ 0x01 ∷ [])) (to client (Iso.negative 0x2A Iso.incorrectMessageLengthOrInvalidFormat))
+periodic-no-identifier =
+    case default (asks (0x2A ∷ 0x01 ∷ []))
+    (to client (0x6A ∷ 0x01 ∷ []))
+    (to client (Iso.negative 0x2A Iso.incorrectMessageLengthOrInvalidFormat))
 
 -- a mode that there is not is refused as a sub-function
 abbrev periodic-unknown-mode : Case
-periodic-unknown-mode = case default (asks (0x2A ∷ 0x05 ∷ [])) (to client (Iso.negative 0x2A Iso.subFunctionNotSupported)) (to client (Iso.negative 0x2A Iso.requestOutOfRange))
+periodic-unknown-mode =
+    case default (asks (0x2A ∷ 0x05 ∷ []))
+    (to client (Iso.negative 0x2A Iso.subFunctionNotSupported))
+    (to client (Iso.negative 0x2A Iso.requestOutOfRange))
 
 -- a guarded identifier is sent to a client that holds no level
 abbrev periodic-level : Case
-periodic-level = case (serverIn guardedPeriodic 3 0) (asks (0x2A ∷ 0x01 ∷ 0x02 ∷ [])) (to client (0x6A ∷ 0x01 ∷ [])) (to client (Iso.negative 0x2A Iso.securityAccessDenied))
+periodic-level =
+    case (serverIn guardedPeriodic 3 0) (asks (0x2A ∷ 0x01 ∷ 0x02 ∷ []))
+    (to client (0x6A ∷ 0x01 ∷ []))
+    (to client (Iso.negative 0x2A Iso.securityAccessDenied))
 
 -- with the table full, 31 is sent after a functional request too
 abbrev periodic-full : Case
-periodic-full = case crowded (frame everyone (0x2A ∷ 0x01 ∷ 0x01 ∷ []) given0 emptyTable) (to client (Iso.negative 0x2A Iso.requestOutOfRange)) []
+periodic-full =
+    case crowded (frame everyone (0x2A ∷ 0x01 ∷ 0x01 ∷ []) given0 emptyTable)
+    (to client (Iso.negative 0x2A Iso.requestOutOfRange))
+    []
 
 -- requestDownload accepts an address and a size of no bytes
 abbrev download-no-lengths : Case
-download-no-lengths = case (serverIn fixedConfig 3 0) (acts (0x34 ∷ 0x00 ∷ 0x00 ∷ 0x00 ∷ []) (0x10 ∷ 0x40 ∷ [])) (to client (0x74 ∷ 0x10 ∷ 0x40 ∷ [])) (to client (Iso.negative 0x34 Iso.requestOutOfRange))
+download-no-lengths =
+    case (serverIn fixedConfig 3 0) (acts (0x34 ∷ 0x00 ∷ 0x00 ∷ 0x00 ∷ []) (0x10 ∷ 0x40 ∷ []))
+    (to client (0x74 ∷ 0x10 ∷ 0x40 ∷ []))
+    (to client (Iso.negative 0x34 Iso.requestOutOfRange))
 
 -- a path that the request cuts off is taken as empty
 abbrev file-path-cut : Case
-file-path-cut = case (serverIn fixedConfig 3 0) (acts (0x38 ∷ 0x01 ∷ 0x00 ∷ 0x05 ∷ 0x41 ∷ []) (0x01 ∷ [])) (to client (0x78 ∷ 0x01 ∷ [])) (to client (Iso.negative 0x38 Iso.incorrectMessageLengthOrInvalidFormat))
+file-path-cut =
+    case (serverIn fixedConfig 3 0) (acts (0x38 ∷ 0x01 ∷ 0x00 ∷ 0x05 ∷ 0x41 ∷ []) (0x01 ∷ []))
+    (to client (0x78 ∷ 0x01 ∷ []))
+    (to client (Iso.negative 0x38 Iso.incorrectMessageLengthOrInvalidFormat))
 
 -- the control parameter is not echoed: the act's bytes are to begin with it
 abbrev control-parameter : Case
-control-parameter = case (serverIn fixedConfig 3 0) (asks (0x2F ∷ 0xF1 ∷ 0x90 ∷ 0x03 ∷ [])) (to client (0x6F ∷ 0xF1 ∷ 0x90 ∷ [])) (to client (0x6F ∷ 0xF1 ∷ 0x90 ∷ 0x03 ∷ []))
+control-parameter =
+    case (serverIn fixedConfig 3 0) (asks (0x2F ∷ 0xF1 ∷ 0x90 ∷ 0x03 ∷ []))
+    (to client (0x6F ∷ 0xF1 ∷ 0x90 ∷ []))
+    (to client (0x6F ∷ 0xF1 ∷ 0x90 ∷ 0x03 ∷ []))
 
 -- an act's bytes that no frame can carry are conditionsNotCorrect
 abbrev act-too-long : Case
-act-too-long = case (serverIn fixedConfig 3 0) (acts (0x37 ∷ []) (replicate 257 0)) (to client (Iso.negative 0x37 Iso.conditionsNotCorrect)) (to client (Iso.negative 0x37 Iso.responseTooLong))
+act-too-long =
+    case (serverIn fixedConfig 3 0) (acts (0x37 ∷ []) (replicate 257 0))
+    (to client (Iso.negative 0x37 Iso.conditionsNotCorrect))
+    (to client (Iso.negative 0x37 Iso.responseTooLong))
 
 -- busyRepeatRequest goes to the address that was called
 abbrev busy-address : Case
-busy-address = case busy (asks (0x3E ∷ 0x00 ∷ [])) (to server (Iso.negative 0x3E Iso.busyRepeatRequest)) (to client (Iso.negative 0x3E Iso.busyRepeatRequest))
+busy-address =
+    case busy (asks (0x3E ∷ 0x00 ∷ []))
+    (to server (Iso.negative 0x3E Iso.busyRepeatRequest))
+    (to client (Iso.negative 0x3E Iso.busyRepeatRequest))
 
 -- a suppressed testerPresent to everyone is answered while a request is pending
 abbrev busy-tester-present : Case
-busy-tester-present = case busy (frame everyone (0x3E ∷ 0x80 ∷ []) given0 emptyTable) (to everyone (Iso.negative 0x3E Iso.busyRepeatRequest)) []
+busy-tester-present =
+    case busy (frame everyone (0x3E ∷ 0x80 ∷ []) given0 emptyTable)
+    (to everyone (Iso.negative 0x3E Iso.busyRepeatRequest))
+    []
+
+-- a level 7F can be configured, though its access type is reserved
+abbrev reserved-level : Case
+reserved-level =
+    case (serverIn reservedLevel 3 0) (acts (0x27 ∷ 0x7F ∷ []) seed)
+    (to client (0x67 ∷ 0x7F ∷ seed))
+    (to client (Iso.negative 0x27 Iso.subFunctionNotSupported))
+
+-- which routine controls there are is left to the act
+abbrev routine-sub-function : Case
+routine-sub-function =
+    case default (asks (0x31 ∷ 0x05 ∷ 0xF0 ∷ 0x01 ∷ []))
+    (to client (0x71 ∷ 0x05 ∷ 0xF0 ∷ 0x01 ∷ []))
+    (to client (Iso.negative 0x31 Iso.subFunctionNotSupported))
+
+-- the fields of requestFileTransfer's response are left to the act, the mode too: the standard's are here a mode, a length's format, a length and a data format
+abbrev file-mode : Case
+file-mode =
+    case (serverIn fixedConfig 3 0) (asks (0x38 ∷ 0x01 ∷ 0x00 ∷ 0x01 ∷ 0x41 ∷ []))
+    (to client (0x78 ∷ []))
+    (to client (0x78 ∷ 0x01 ∷ 0x01 ∷ 0x40 ∷ 0x00 ∷ []))
+
+-- whether a transfer was begun is left to the act
+abbrev transfer-order : Case
+transfer-order =
+    case (serverIn fixedConfig 3 0) (asks (0x36 ∷ 0x05 ∷ 0x00 ∷ []))
+    (to client (0x76 ∷ 0x05 ∷ []))
+    (to client (Iso.negative 0x36 Iso.requestSequenceError))
 
 abbrev cases : List Case
 cases =
@@ -238,6 +316,10 @@ cases =
     ∷ act-too-long
     ∷ busy-address
     ∷ busy-tester-present
+    ∷ reserved-level
+    ∷ routine-sub-function
+    ∷ file-mode
+    ∷ transfer-order
     ∷ []
 
 -- two lists are the same, by a test on their elements
@@ -262,23 +344,23 @@ agrees c = alike sameFrame (c .ours) (c .standards)
 
 -- in every case the definition sends what stands there, and that is not what the standard sends
 pub departs : (map sends cases ≡ map ours cases) × (map agrees cases ≡ replicate (length cases) false)
-unfolding request valid within securityValid addressed routed heard guarded service service3E service10 sessionControl service11 reset service27 securityAccess requestSeed seedAsked seedGiven sendKey service22 readOne readValue rowValue service2A transmission enter service28 service2F service34 acted service37 service38 part outcome refusal apply changedAfter replied confirmed refused withheld begun queued response
+unfolding whole
 departs = (refl, refl)
 
 -- the high nibble of the format is taken for the address's length: of 34 00 12 AA BB CC the address is AA and the size BB CC, where the standard's are AA BB and CC
 pub download-nibbles : request maxFrame (serverIn fixedConfig 3 0) (asks (0x34 ∷ 0x00 ∷ 0x12 ∷ 0xAA ∷ 0xBB ∷ 0xCC ∷ [])) .act .arguments
     ≡ record { start = 1; len = 1 } ∷ record { start = 3; len = 1 } ∷ record { start = 4; len = 2 } ∷ []
-unfolding request valid within securityValid addressed routed heard guarded service service34 part outcome
+unfolding whole
 download-nibbles = refl
 
 -- P2 is cut to its low 16 bits: 70000 ms is sent as 1170, which is 4464 ms
 pub p2-cut : request maxFrame (serverIn longP2 1 0) (asks (0x10 ∷ 0x01 ∷ [])) .step .state .queue ≡ to client (0x50 ∷ 0x01 ∷ 0x11 ∷ 0x70 ∷ 0x01 ∷ 0xF4 ∷ [])
-unfolding request valid within securityValid addressed routed heard guarded service service10 sessionControl apply replied confirmed queued response
+unfolding whole
 p2-cut = refl
 
 -- mode 04 with no identifiers stops nothing, where the standard stops all
 pub stop-all : request maxFrame crowded (asks (0x2A ∷ 0x04 ∷ [])) .step .state .periodic ≡ crowded .periodic
-unfolding request valid within securityValid addressed routed heard guarded service service2A transmission apply replied confirmed queued response
+unfolding whole
 stop-all = refl
 
 -- subscriptions outlive their session, where the standard stops them: here it ends by S3
@@ -287,21 +369,21 @@ watched = withRecords (serverIn fixedConfig 3 0) (serverIn fixedConfig 3 0 .sess
 
 pub subscriptions-outlive : (tick maxFrame watched 5001 emptyTable .step .state .session .sessionType ≡ Iso.defaultSession)
     × (tick maxFrame watched 5001 emptyTable .step .state .periodic ≡ watched .periodic)
-unfolding tick valid within securityValid s3 refreshed passOne thenPeriodic
+unfolding whole
 subscriptions-outlive = (refl, refl)
 
 -- S3 runs while a request is pending, where the standard stops it: the session ends under the request
 pub s3-while-pending : (tick maxFrame busy 5001 emptyTable .step .state .session .sessionType ≡ Iso.defaultSession) × (tick maxFrame busy 5001 emptyTable .step .state .pending ≡ busy .pending)
-unfolding tick valid within securityValid s3 refreshed thenPeriodic
+unfolding whole
 s3-while-pending = (refl, refl)
 
 -- a reset that was pending is answered, and the session stays, where the standard's is the default one
 pub pending-reset : (complete maxFrame (pendingFor 0x11) 200 (0x01 ∷ []) .state .queue ≡ to client (0x51 ∷ 0x01 ∷ []))
     × (complete maxFrame (pendingFor 0x11) 200 (0x01 ∷ []) .state .session .sessionType ≡ 3)
-unfolding complete completed valid within securityValid confirmed queued response
+unfolding whole
 pending-reset = (refl, refl)
 
 -- a pending request can be failed with 78, which ends it: no final response follows
 pub failed-with-78 : (fail maxFrame busy 200 0x78 .state .queue ≡ to client (Iso.pendingMessage 0x31)) × (fail maxFrame busy 200 0x78 .state .pending ≡ none)
-unfolding fail failed valid within securityValid queued
+unfolding whole
 failed-with-78 = (refl, refl)
