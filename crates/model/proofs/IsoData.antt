@@ -24,7 +24,7 @@ use Rattle.model.specs.Service37.{service37}
 use Rattle.model.specs.Service38.{service38}
 use Rattle.model.proofs.Laws.{right, either}
 use Rattle.model.proofs.IsoFrames.{responseOf, refusal-code}
-use Rattle.model.proofs.IsoRequest.{answer, decided, by-act}
+use Rattle.model.proofs.IsoRequest.{Refuses, answer, decided, by-act}
 
 -- r is the record of x: x is supported in the session, its level is held, and the value table says r of it
 pub record Record (v : Seen) (x : ℕ) (r : List ℕ) : Type 0 where
@@ -161,22 +161,22 @@ module _ (v : Seen) where
     unfolding service22
     reads = let n : suc (suc (length rest)) % 2 ≡ 0 = omega arith in rw (p, le-leb 2 (suc (suc (length rest))) (omega arith), n)
 
-    pub read-unsupported : readable (v .session .sessionType) (findDid (v .config) (Iso.unsigned h l)) ≡ false → answer (service22 v) ≡ some (Iso.negativeResponse Iso.requestOutOfRange)
+    pub read-unsupported : readable (v .session .sessionType) (findDid (v .config) (Iso.unsigned h l)) ≡ false → Refuses (service22 v) Iso.requestOutOfRange
     unfolding readOne
     read-unsupported e = reads ∙ rw e
 
     pub read-denied : readable (v .session .sessionType) (findDid (v .config) (Iso.unsigned h l)) ≡ true → heldFor (v .session .level) (findDid (v .config) (Iso.unsigned h l)) ≡ false
-        → answer (service22 v) ≡ some (Iso.negativeResponse Iso.securityAccessDenied)
+        → Refuses (service22 v) Iso.securityAccessDenied
     unfolding readOne
     read-denied e f = reads ∙ rw (e, f)
 
     -- and a record that the response cannot carry: responseTooLong
-    pub read-long : (r : List ℕ) → Record v (Iso.unsigned h l) r → 2 ≤ v .limit → v .limit < 2 + length r → answer (service22 v) ≡ some (Iso.negativeResponse Iso.responseTooLong)
+    pub read-long : (r : List ℕ) → Record v (Iso.unsigned h l) r → 2 ≤ v .limit → v .limit < 2 + length r → Refuses (service22 v) Iso.responseTooLong
     unfolding readOne readValue
     read-long r x n k = reads ∙ rw (x .supported, x .held, x .value, le-leb 2 _ n, lt-leb (2 + length r) (v .limit) k)
 
 -- half an identifier is incorrectMessageLengthOrInvalidFormat
-pub read-odd : (v : Seen) → length (v .payload) % 2 ≡ 1 → answer (service22 v) ≡ some (Iso.negativeResponse Iso.incorrectMessageLengthOrInvalidFormat)
+pub read-odd : (v : Seen) → length (v .payload) % 2 ≡ 1 → Refuses (service22 v) Iso.incorrectMessageLengthOrInvalidFormat
 unfolding service22
 read-odd v h = rw h (go (leb 2 (length (v .payload))))
   where
@@ -191,13 +191,13 @@ module _ (v : Seen) (h l d : ℕ) (rest : List ℕ) (p : v .payload ≡ h ∷ l 
   writes = rw (p, le-leb 3 (suc (suc (suc (length rest)))) (omega arith))
 
   -- not writable in the session: requestOutOfRange
-  pub write-unsupported : writable (v .session .sessionType) (findDid (v .config) (Iso.unsigned h l)) ≡ false → answer (service2E v) ≡ some (Iso.negativeResponse Iso.requestOutOfRange)
+  pub write-unsupported : writable (v .session .sessionType) (findDid (v .config) (Iso.unsigned h l)) ≡ false → Refuses (service2E v) Iso.requestOutOfRange
   unfolding writeRow
   write-unsupported e = rw (writes, e)
 
   module _ (e : writable (v .session .sessionType) (findDid (v .config) (Iso.unsigned h l)) ≡ true) where
     -- its level not held: securityAccessDenied
-    pub write-denied : heldFor (v .session .level) (findDid (v .config) (Iso.unsigned h l)) ≡ false → answer (service2E v) ≡ some (Iso.negativeResponse Iso.securityAccessDenied)
+    pub write-denied : heldFor (v .session .level) (findDid (v .config) (Iso.unsigned h l)) ≡ false → Refuses (service2E v) Iso.securityAccessDenied
     unfolding writeRow
     write-denied f = rw (writes, e, f)
 

@@ -20,7 +20,7 @@ use Rattle.model.specs.Service2A.{rateOf, isSubscription, subscription, 
 use Rattle.model.proofs.Laws.{left, both}
 use Rattle.model.proofs.IsoEnter.{Entry, entered, kept}
 use Rattle.model.proofs.IsoFrames.{responseOf}
-use Rattle.model.proofs.IsoRequest.{answer}
+use Rattle.model.proofs.IsoRequest.{Refuses, answer}
 
 -- a byte names the identifier whose low byte it is
 pub periodic-identifier : (low : ℕ) → low < 256 → periodicDid low ≡ Iso.periodicIdentifier low
@@ -109,7 +109,7 @@ module _ (v : Seen) (mode : ℕ) where
 
   -- and the first identifier that the session does not support is requestOutOfRange
   pub sends-unsupported : (b : ℕ) (ids : List ℕ) → v .payload ≡ mode ∷ b ∷ ids → Iso.sendAtSlowRate ≤ mode → mode ≤ Iso.sendAtFastRate
-      → readable (v .session .sessionType) (findDid (v .config) (periodicDid b)) ≡ false → answer (service2A v) ≡ some (Iso.negativeResponse Iso.requestOutOfRange)
+      → readable (v .session .sessionType) (findDid (v .config) (periodicDid b)) ≡ false → Refuses (service2A v) Iso.requestOutOfRange
   sends-unsupported b ids p low high e = rw (sending (b ∷ ids) p low high, e)
 
 -- what is without those that pass has none that passes, and gains none

@@ -35,6 +35,10 @@ use Rattle.model.proofs.IsoFrames.{responseOf, to, functionally, answer
 abbrev pub answer : Served → Option Iso.Response
 answer a = responseOf (a .effect .reply)
 
+-- a service that refuses with a code
+abbrev pub Refuses : Served → ℕ → Type 0
+Refuses a code = answer a ≡ some (Iso.negativeResponse code)
+
 -- an answer that an act decides: what its bytes make, or its code
 abbrev pub decided : (List ℕ → Iso.Response) → Outcome → Iso.Response
 decided f (bytes b) = f b
@@ -94,13 +98,13 @@ module _ (limit : ℕ) (s : State) (r : Request) (m : AddressMode) (a : Arrives 
       go false = answered limit (changed found x) (r .inbound .src) (sidOf (r .inbound .frame)) (r .inbound .time) room h (x .reply) b e
 
   -- a service that is not configured is serviceNotSupported
-  pub not-supported : findService (s .config) (sidOf (r .inbound .frame)) ≡ none → answer (served limit found r) ≡ some (Iso.negativeResponse Iso.serviceNotSupported)
+  pub not-supported : findService (s .config) (sidOf (r .inbound .frame)) ≡ none → Refuses (served limit found r) Iso.serviceNotSupported
   unfolding guarded
   not-supported e = rw e
 
   module _ (row : ServiceConfig) (e : findService (s .config) (sidOf (r .inbound .frame)) ≡ some row) where
     -- one that is, but not for the active session, is serviceNotSupportedInActiveSession
-    pub not-in-session : allowedIn (s .session .sessionType) row ≡ false → answer (served limit found r) ≡ some (Iso.negativeResponse Iso.serviceNotSupportedInActiveSession)
+    pub not-in-session : allowedIn (s .session .sessionType) row ≡ false → Refuses (served limit found r) Iso.serviceNotSupportedInActiveSession
     unfolding guarded
     not-in-session f = rw (e, f)
 
@@ -110,7 +114,7 @@ module _ (limit : ℕ) (s : State) (r : Request) (m : AddressMode) (a : Arrives 
     serves f = rw (e, f)
 
 -- a configured service that is none of the fourteen is serviceNotSupported
-pub not-served : (sid : ℕ) (v : Seen) → ((x : ℕ) → Iso.listed Iso.services x ≡ true → sid ≡ x → ⊥) → answer (service sid v) ≡ some (Iso.negativeResponse Iso.serviceNotSupported)
+pub not-served : (sid : ℕ) (v : Seen) → ((x : ℕ) → Iso.listed Iso.services x ≡ true → sid ≡ x → ⊥) → Refuses (service sid v) Iso.serviceNotSupported
 unfolding service
 not-served sid v n = rw (ne 0x3E refl, ne 0x10 refl, ne 0x11 refl, ne 0x27 refl, ne 0x22 refl, ne 0x2E refl, ne 0x2A refl, ne 0x31 refl, ne 0x28 refl, ne 0x2F refl, ne 0x34 refl, ne 0x36 refl, ne 0x37 refl, ne 0x38 refl)
   where
@@ -130,7 +134,7 @@ answersShorter = Iso.requestDownload ∷ Iso.requestFileTransfer ∷ Iso.testerP
 
 abbrev Short : Iso.Shortest → Type 0
 Short q = Iso.listed answersShorter (q .service) ≡ false → (v : Seen) → suc (length (v .payload)) < q .bytes
-    → answer (service (q .service) v) ≡ some (Iso.negativeResponse Iso.incorrectMessageLengthOrInvalidFormat)
+    → Refuses (service (q .service) v) Iso.incorrectMessageLengthOrInvalidFormat
 
 -- a request that is too short for its service is incorrectMessageLengthOrInvalidFormat, in eleven of the fourteen
 pub too-short : Iso.Every Short Iso.shortestRequests

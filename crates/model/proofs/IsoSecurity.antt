@@ -15,7 +15,7 @@ use Rattle.model.specs.State.{Failed, Lock, Security}
 use Rattle.model.specs.Service.{Seen, Act, Part, part}
 use Rattle.model.specs.Service27.{isLock, relock, locked, awaits, keyFits, failedCount, incrementFailed, setLockout, seedGiven, seedAsked, requestSeed, lockedOut, denied, judged, sendKey, securityAccess, service27}
 use Rattle.model.proofs.IsoEnter.{entered}
-use Rattle.model.proofs.IsoRequest.{answer}
+use Rattle.model.proofs.IsoRequest.{Refuses, answer}
 
 -- the act of securityAccess, asked with parts of the frame
 abbrev pub asked : List Part → Act
@@ -29,7 +29,7 @@ delay-runs level until now k l e h =
 
 module _ (v : Seen) (b : ℕ) (rest : List ℕ) (p : v .payload ≡ b ∷ rest) where
   -- access type 0 is reserved: subFunctionNotSupported
-  pub reserved : Iso.subFunctionValue b ≡ 0 → answer (service27 v) ≡ some (Iso.negativeResponse Iso.subFunctionNotSupported)
+  pub reserved : Iso.subFunctionValue b ≡ 0 → Refuses (service27 v) Iso.subFunctionNotSupported
   unfolding service27 securityAccess
   reserved e = rw (p, le-ltb (suc (length rest)) 1 (omega arith), e)
 
@@ -40,13 +40,13 @@ module _ (v : Seen) (b : ℕ) (rest : List ℕ) (p : v .payload ≡ b ∷ rest) 
     seeks = let n : b % 128 ≡ 0 → ⊥ = omega arith in rw (p, le-ltb (suc (length rest)) 1 (omega arith), ne-eqb _ _ n, odd)
 
     -- while its delay runs: requiredTimeDelayNotExpired
-    pub seed-delayed : locked (v .security) (Iso.subFunctionValue b) (v .now) ≡ true → answer (service27 v) ≡ some (Iso.negativeResponse Iso.requiredTimeDelayNotExpired)
+    pub seed-delayed : locked (v .security) (Iso.subFunctionValue b) (v .now) ≡ true → Refuses (service27 v) Iso.requiredTimeDelayNotExpired
     unfolding requestSeed
     seed-delayed l = rw (seeks, l)
 
     module _ (free : locked (v .security) (Iso.subFunctionValue b) (v .now) ≡ false) where
       -- an access type that has no row: subFunctionNotSupported
-      pub seed-unknown : findLevel (v .config) (Iso.subFunctionValue b) ≡ none → answer (service27 v) ≡ some (Iso.negativeResponse Iso.subFunctionNotSupported)
+      pub seed-unknown : findLevel (v .config) (Iso.subFunctionValue b) ≡ none → Refuses (service27 v) Iso.subFunctionNotSupported
       unfolding requestSeed seedAsked
       seed-unknown e = rw (seeks, free, e)
 
@@ -74,19 +74,19 @@ module _ (v : Seen) (b : ℕ) (rest : List ℕ) (p : v .payload ≡ b ∷ rest) 
         rw (p, le-ltb (suc (length rest)) 1 (omega arith), even, ne-eqb _ _ z, ne-eqb _ _ n, m)
 
     -- while the delay runs: requiredTimeDelayNotExpired
-    pub key-delayed : locked (v .security) level (v .now) ≡ true → answer (service27 v) ≡ some (Iso.negativeResponse Iso.requiredTimeDelayNotExpired)
+    pub key-delayed : locked (v .security) level (v .now) ≡ true → Refuses (service27 v) Iso.requiredTimeDelayNotExpired
     unfolding sendKey
     key-delayed l = rw (sends, l)
 
     module _ (free : locked (v .security) level (v .now) ≡ false) where
       -- without its seed: requestSequenceError
-      pub key-before-seed : awaits (v .security) level ≡ false → answer (service27 v) ≡ some (Iso.negativeResponse Iso.requestSequenceError)
+      pub key-before-seed : awaits (v .security) level ≡ false → Refuses (service27 v) Iso.requestSequenceError
       unfolding sendKey
       key-before-seed e = rw (sends, free, e)
 
       module _ (waiting : awaits (v .security) level ≡ true) where
         -- of another length than its level's: incorrectMessageLengthOrInvalidFormat
-        pub key-length : keyFits (length (v .payload) - 1) (findLevel (v .config) level) ≡ false → answer (service27 v) ≡ some (Iso.negativeResponse Iso.incorrectMessageLengthOrInvalidFormat)
+        pub key-length : keyFits (length (v .payload) - 1) (findLevel (v .config) level) ≡ false → Refuses (service27 v) Iso.incorrectMessageLengthOrInvalidFormat
         unfolding sendKey
         key-length e = rw (sends, free, waiting, e)
 
@@ -105,13 +105,13 @@ module _ (v : Seen) (b : ℕ) (rest : List ℕ) (p : v .payload ≡ b ∷ rest) 
 
           module _ (code : ℕ) (o : outcome (v .limit) (v .given) ≡ error code) (f : List Failed) (room : incrementFailed level (v .security .failed) ≡ some f) where
             -- one that is refused: invalidKey
-            pub key-invalid : failedCount level f < maxAttemptsOf (findLevel (v .config) level) → answer (service27 v) ≡ some (Iso.negativeResponse Iso.invalidKey)
+            pub key-invalid : failedCount level f < maxAttemptsOf (findLevel (v .config) level) → Refuses (service27 v) Iso.invalidKey
             unfolding sendKey judged denied
             key-invalid h = rw (sends, free, waiting, fits, o, room, lt-leb _ _ h)
 
             -- and once too often: exceededNumberOfAttempts, and the delay runs from now
             pub key-exceeded : (l : List Lock) → maxAttemptsOf (findLevel (v .config) level) ≤ failedCount level f
                 → setLockout level (v .now + lockoutOf (findLevel (v .config) level)) (v .security .locks) ≡ some l
-                → (answer (service27 v) ≡ some (Iso.negativeResponse Iso.exceededNumberOfAttempts)) × (service27 v .effect .security .locks ≡ l)
+                → (Refuses (service27 v) Iso.exceededNumberOfAttempts) × (service27 v .effect .security .locks ≡ l)
             unfolding sendKey judged denied lockedOut
             key-exceeded l h e = rw (sends, free, waiting, fits, o, room, le-leb _ _ h, e) (refl, refl)

@@ -18,7 +18,7 @@ use Rattle.model.specs.Service28.{communication, service28}
 use Rattle.model.specs.Service31.{routine, service31}
 use Rattle.model.specs.Service3E.{service3E}
 use Rattle.model.proofs.IsoFrames.{responseOf, suppress-bit, suppressing, refusal-code, two-bytes}
-use Rattle.model.proofs.IsoRequest.{answer, decided, by-act}
+use Rattle.model.proofs.IsoRequest.{Refuses, answer, decided, by-act}
 
 -- the session parameter record: P2 in ms and P2* in 10 ms, each as its low 16 bits
 pub session-fields : (x : ℕ) (row : SessionConfig) → timings x (some row) ≡ Iso.sessionFields x (row .p2 % 65536) (row .p2Ext / 10 % 65536)
@@ -38,7 +38,7 @@ module _ (v : Seen) (sub : ℕ) (rest : List ℕ) (p : v .payload ≡ sub ∷ re
   tester-present = rw (p, suppress-bit sub byte) (suppressing Bit (sub % 128 ∷ []))
 
   -- diagnosticSessionControl of a session that is not known is subFunctionNotSupported
-  pub session-unknown : findSession (v .config) (Iso.subFunctionValue sub) ≡ none → answer (service10 v) ≡ some (Iso.negativeResponse Iso.subFunctionNotSupported)
+  pub session-unknown : findSession (v .config) (Iso.subFunctionValue sub) ≡ none → Refuses (service10 v) Iso.subFunctionNotSupported
   unfolding service10 sessionControl
   session-unknown e = rw (p, le-ltb (suc (length rest)) 1 (omega arith), e)
 
