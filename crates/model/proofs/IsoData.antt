@@ -223,7 +223,7 @@ transfer-data v counter rest p =
     rw (le-leb 1 (length (v .payload)) (omega (arith, ap length p)))
     (by-act v (transferred v) (λ b. Iso.positiveResponse (Iso.transferFields counter b)) (λ b. rw p) (outcome (v .limit) (v .given)))
 
--- requestDownload, requestTransferExit, requestFileTransfer: the act's code, or its bytes, which are the fields
+-- requestDownload, requestTransferExit, requestFileTransfer: the act's code, or its bytes. The response has the standard's fields exactly where the act gives them
 module _ (v : Seen) where
   passed-on : (o : Outcome) → responseOf (acted v positive o .reply) ≡ some (decided Iso.positiveResponse o)
   passed-on o = by-act v positive Iso.positiveResponse (λ b. refl) o
@@ -240,3 +240,14 @@ module _ (v : Seen) where
   pub file-transfer : 3 ≤ length (v .payload) → answer (service38 v) ≡ some (decided Iso.positiveResponse (outcome (v .limit) (v .given)))
   unfolding service38
   file-transfer h = rw (le-leb 3 (length (v .payload)) h) (passed-on (outcome (v .limit) (v .given)))
+
+  pub download-fields : (n : List ℕ) → 3 ≤ length (v .payload) → 2 + addressLength (v .payload) + sizeLength (v .payload) ≤ length (v .payload)
+      → outcome maxDownload (v .given) ≡ bytes (Iso.downloadFields n) → answer (service34 v) ≡ some (Iso.positiveResponse (Iso.downloadFields n))
+  download-fields n h k o = rw o at (request-download h k)
+
+  pub exit-fields : (r : List ℕ) → outcome (v .limit) (v .given) ≡ bytes (Iso.exitFields r) → answer (service37 v) ≡ some (Iso.positiveResponse (Iso.exitFields r))
+  exit-fields r o = rw o at transfer-exit
+
+  pub file-fields : (mode : ℕ) (more : List ℕ) → 3 ≤ length (v .payload) → outcome (v .limit) (v .given) ≡ bytes (Iso.fileFields mode more)
+      → answer (service38 v) ≡ some (Iso.positiveResponse (Iso.fileFields mode more))
+  file-fields mode more h o = rw o at (file-transfer h)

@@ -145,6 +145,6 @@ cancels client (b ∷ ids) t =
 
 -- mode 4: a positive response, after which none of the identifiers listed is sent to the client
 pub stops : (v : Seen) (ids : List ℕ) → v .payload ≡ Iso.stopSending ∷ ids
-    → Iso.Every (λ b. any (isSubscription (periodicDid b) (v .src)) (service2A v .effect .periodic) ≡ false) ids
+    → (answer (service2A v) ≡ some (Iso.positiveResponse (Iso.stopSending ∷ []))) × Iso.Every (λ b. any (isSubscription (periodicDid b) (v .src)) (service2A v .effect .periodic) ≡ false) ids
 unfolding service2A transmission
-stops v ids p = rw (p, le-ltb (suc (length ids)) 1 (omega arith)) (cancels (v .src) ids (v .periodic))
+stops v ids p = rw (p, le-ltb (suc (length ids)) 1 (omega arith)) (refl, cancels (v .src) ids (v .periodic))

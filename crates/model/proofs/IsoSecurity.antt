@@ -63,6 +63,11 @@ module _ (v : Seen) (b : ℕ) (rest : List ℕ) (p : v .payload ≡ b ∷ rest) 
         unfolding requestSeed seedAsked seedGiven
         seed-given seed o e f = rw (seeks, free, known, o, eq-eqb _ _ e, lt-ltb _ _ f) (refl, refl, refl)
 
+        -- where none can be had: conditionsNotCorrect
+        pub seed-refused : (code : ℕ) → outcome (v .limit) (v .given) ≡ error code → Refuses (service27 v) Iso.conditionsNotCorrect
+        unfolding requestSeed seedAsked seedGiven
+        seed-refused code o = rw (seeks, free, known, o)
+
   -- the even access type after an odd one sends its key
   module _ (level : ℕ) (odd : Iso.requestsSeed level) (even : Iso.subFunctionValue b ≡ Iso.keyTypeOf level) where
     sends : service27 v ≡ sendKey v level

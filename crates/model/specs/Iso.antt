@@ -186,7 +186,7 @@ messages functionally longest sid noResponse = []
 messages functionally longest sid (positiveResponse fields) = fitting (leb (length (positive sid fields)) longest) (positive sid fields) (negative sid responseTooLong)
 messages functionally longest sid (negativeResponse code) = unless (functionally && listed notSentFunctionally code) (negative sid code)
 
--- SUB-FUNCTION (8.2): bit 7 is suppressPosRspMsgIndicationBit, bits 6 to 0 are the value
+-- SUB-FUNCTION: bit 7 is suppressPosRspMsgIndicationBit, bits 6 to 0 are the value
 abbrev pub suppressPosRspMsgIndicationBit : ℕ → Bool
 suppressPosRspMsgIndicationBit byte = eqb (byte / 128) 1
 
@@ -264,6 +264,17 @@ routineFields value h l record′ = value ∷ h ∷ l ∷ record′
 -- transferData (14.4): the block sequence counter, then data
 abbrev pub transferFields : ℕ → List ℕ → List ℕ
 transferFields counter data′ = counter ∷ data′
+
+-- requestDownload (14.2): in the high nibble of a byte how many bytes the longest block's length has, then that length
+abbrev pub downloadFields : List ℕ → List ℕ
+downloadFields blockLength = (length blockLength * 16) ∷ blockLength
+
+-- requestTransferExit (14.5): a record; requestFileTransfer (14.6): the mode of operation, and what the mode asks
+abbrev pub exitFields : List ℕ → List ℕ
+exitFields record′ = record′
+
+abbrev pub fileFields : ℕ → List ℕ → List ℕ
+fileFields mode more = mode ∷ more
 
 -- SECURITY ACCESS: an odd access type asks a seed, the next even one sends its key; 0 is reserved
 abbrev pub requestsSeed : ℕ → Type 0
