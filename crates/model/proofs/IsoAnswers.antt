@@ -348,16 +348,16 @@ pub record Responds (sid limit : ℕ) (s : State) (r : Request) (m : AddressMode
   pub sent : request limit s r .step .state .queue ≡ s .queue ++ to (r .inbound .src) (Iso.messages (functionally m) limit sid response)
 
 pub thirteen-respond : Iso.Every (λ sid. (limit : ℕ) (s : State) (r : Request) (m : AddressMode) → Allowed sid limit s r m → Responds sid limit s r m) butPeriodic
-thirteen-respond = every-map one butPeriodic (every-both (λ sid. sid < 64) (λ sid. Answers (service sid)) butPeriodic (omega arith) thirteen-answer)
+thirteen-respond = every-map one butPeriodic (every-both Iso.RequestIdentifier (λ sid. Answers (service sid)) butPeriodic (omega arith) thirteen-answer)
   where
-    one : (sid : ℕ) → (sid < 64) × Answers (service sid) → (limit : ℕ) (s : State) (r : Request) (m : AddressMode) → Allowed sid limit s r m → Responds sid limit s r m
-    one sid h limit s r m c = record { response = a .0; answered = a .1; sent = rw (c .named) at (responds limit s r m (c .arrives) (c .room) small (a .0) found) }
+    one : (sid : ℕ) → Iso.RequestIdentifier sid × Answers (service sid) → (limit : ℕ) (s : State) (r : Request) (m : AddressMode) → Allowed sid limit s r m → Responds sid limit s r m
+    one sid h limit s r m c = record { response = a .0; answered = a .1; sent = rw (c .named) at (responds limit s r m (c .arrives) (c .room) request-identifier (a .0) found) }
       where
         a : (x : Iso.Response) × (answer (service sid (seen limit (received s m (r .inbound .time)) r)) ≡ some x)
         a = h .1 (seen limit (received s m (r .inbound .time)) r)
 
-        small : sidOf (r .inbound .frame) < 64
-        small = rw (c .named) (h .0)
+        request-identifier : Iso.RequestIdentifier (sidOf (r .inbound .frame))
+        request-identifier = rw (c .named) (h .0)
 
         found : answer (served limit (received s m (r .inbound .time)) r) ≡ some (a .0)
         found = ap answer (serves limit s r m (c .arrives) (c .row) (rw (c .named) (c .configured)) (c .allowed)) ∙ rw (c .named) (a .1)

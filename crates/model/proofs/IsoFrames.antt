@@ -15,10 +15,10 @@ use Rattle.model.specs.Frame.{Frame, response, positiveFrame, negativeFr
 use Rattle.model.specs.State.{AddressMode, physical, functional, State, Step, step, withQueue}
 use Rattle.model.specs.Reply.{Reply, silent, positive, negative, always, pends, refusal, withheld, queued, refused, confirmed, begun, replied}
 
--- a service identifier below 0x40 is answered with 0x40 added, so each of the fourteen is
-pub positive-identifier : (sid : ℕ) → sid < 64 → (fields : List ℕ) → positiveFrame sid fields ≡ Iso.positive sid fields
+-- the identifier of a request is answered with 0x40 added, so each of the fourteen is
+pub positive-identifier : (sid : ℕ) → Iso.RequestIdentifier sid → (fields : List ℕ) → positiveFrame sid fields ≡ Iso.positive sid fields
 unfolding response
-positive-identifier sid h fields = rw (lt-ltb (sid % 128) 64 (omega arith))
+positive-identifier sid h fields = rw (lt-ltb (sid % 128) 64 h)
 
 -- a property of every element, from another; and two at once
 pub every-map : {A : Type 0} {P Q : A → Type 0} → ((a : A) → P a → Q a) → (l : List A) → Iso.Every P l → Iso.Every Q l
@@ -30,7 +30,7 @@ every-both P Q [] h k = tt
 every-both P Q (a ∷ l) h k = ((h .0, k .0), every-both P Q l (h .1) (k .1))
 
 pub fourteen-identifiers : Iso.Every (λ sid. (fields : List ℕ) → positiveFrame sid fields ≡ Iso.positive sid fields) Iso.services
-fourteen-identifiers = every-map {P = λ sid. sid < 64} positive-identifier Iso.services (omega arith)
+fourteen-identifiers = every-map {P = Iso.RequestIdentifier} positive-identifier Iso.services (omega arith)
 
 -- a negative response has the standard's layout
 pub negative-layout : (sid code : ℕ) → negativeFrame sid code ≡ Iso.negative sid code
@@ -112,7 +112,7 @@ module _ (limit : ℕ) (s : State) (client sid : ℕ) (now : Moment) (room : len
       go true = sym (append-nil (s .queue))
       go false = rw (queues s client (negativeFrame sid code))
 
-  pub confirms : sid < 64 → (fields : List ℕ) → Sends (confirmed limit s client sid fields) (Iso.positiveResponse fields)
+  pub confirms : Iso.RequestIdentifier sid → (fields : List ℕ) → Sends (confirmed limit s client sid fields) (Iso.positiveResponse fields)
   unfolding confirmed
   confirms h fields = go (leb (suc (length fields)) limit)
     where
@@ -122,7 +122,7 @@ module _ (limit : ℕ) (s : State) (client sid : ℕ) (now : Moment) (room : len
       go false = rw (unlisted (s .mode) (Iso.negative sid 0x14)) at (refuses 0x14)
 
   -- with room in the queue, a reply is queued as exactly the messages that the standard sends for it
-  pub answered : sid < 64 → (r : Reply) (a : Iso.Response) → responseOf r ≡ some a
+  pub answered : Iso.RequestIdentifier sid → (r : Reply) (a : Iso.Response) → responseOf r ≡ some a
       → replied limit s client sid now r .state .queue ≡ s .queue ++ to client (Iso.messages (functionally (s .mode)) limit sid a)
   unfolding replied begun queued
   answered h silent a e = let f : Iso.noResponse ≡ a = cc in rw (← f) (sym (append-nil (s .queue)))

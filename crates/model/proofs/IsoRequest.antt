@@ -80,8 +80,8 @@ module _ (limit : ℕ) (s : State) (r : Request) (m : AddressMode) (a : Arrives 
   abbrev Sends : Step → Iso.Response → Type 0
   Sends p b = p .state .queue ≡ s .queue ++ to (r .inbound .src) (Iso.messages (functionally m) limit (sidOf (r .inbound .frame)) b)
 
-  -- with room in the queue, a request below 0x40 is answered, to its sender, with what the standard sends for its service's answer
-  pub responds : length (s .queue) < maxOutbox → sidOf (r .inbound .frame) < 64 → (b : Iso.Response) → answer (served limit found r) ≡ some b
+  -- with room in the queue, a request is answered, to its sender, with what the standard sends for its service's answer
+  pub responds : length (s .queue) < maxOutbox → Iso.RequestIdentifier (sidOf (r .inbound .frame)) → (b : Iso.Response) → answer (served limit found r) ≡ some b
       → request limit s r .step .state .queue
       ≡ s .queue ++ to (r .inbound .src) (Iso.messages (functionally m) limit (sidOf (r .inbound .frame)) b)
   unfolding apply

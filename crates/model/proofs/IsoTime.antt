@@ -106,7 +106,7 @@ pending-waits s now p h = rw (lt-leb _ _ h)
 
 -- the final response of a pending request is sent however the request was addressed, and whatever its suppress bit was
 module _ (limit : ℕ) (s : State) (now : Moment) (p : PendingRequest) (v : valid limit s ≡ true) (h : now ≤ maxTime) (e : s .pending ≡ some p) (room : length (s .queue) < maxOutbox) where
-  pub final-positive : p .sid < 64 → (fields : List ℕ)
+  pub final-positive : Iso.RequestIdentifier (p .sid) → (fields : List ℕ)
       → complete limit s now fields .state .queue ≡ s .queue ++ to (p .dst) (Iso.finalMessages limit (p .sid) (Iso.positiveResponse fields))
   unfolding complete completed
   final-positive k fields = rw (v, le-leb _ _ h, e) (confirms limit (withPending s none) (p .dst) (p .sid) now room k fields)

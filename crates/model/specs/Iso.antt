@@ -67,6 +67,10 @@ requestFileTransfer = 0x38
 abbrev pub testerPresent : ℕ
 testerPresent = 0x3E
 
+-- bit 6 is clear in the identifier of a request: it is set in that of its response
+abbrev pub RequestIdentifier : ℕ → Type 0
+RequestIdentifier sid = sid % 128 < 64
+
 -- those whose first byte after the identifier is a sub-function, and those that have none
 abbrev pub withSubFunction : List ℕ
 withSubFunction = diagnosticSessionControl ∷ ecuReset ∷ securityAccess ∷ communicationControl ∷ routineControl ∷ testerPresent ∷ []
