@@ -1,105 +1,22 @@
 -- Where the definition departs from ISO 14229-1: for each the smallest request that shows it, what the definition sends, and what the standard sends.
 -- The configuration is the fixed one, but where that cannot show it.
-use Prim.Native.Nat.{ℕ}
 use mathlib.Core.Path.{_≡_, refl}
 use mathlib.Core.Bool.{Bool, true, false, _&&_}
 use mathlib.Core.List.{List, [], _∷_, map}
-use mathlib.Core.Option.{some, none}
+use mathlib.Core.Option.{none}
 use lib.ListN.{length, replicate}
 use lib.Dec.{eqb}
 use Rattle.model.specs.Iso
 use Rattle.model.specs.Numbers.{maxFrame}
-use Rattle.model.specs.Config.{SessionConfig, DidConfig, SecurityLevelConfig, Config}
-use Rattle.model.specs.Values.{Given, given0, Table, emptyTable}
+use Rattle.model.specs.Values.{given0, emptyTable}
 use Rattle.model.specs.Frame.{Frame}
-use Rattle.model.specs.State.{State, Subscription, freshSecurity, physical, withRecords, withPending}
+use Rattle.model.specs.State.{State}
 use Rattle.model.specs.Request.{Request, request}
 use Rattle.model.specs.Pending.{complete, fail}
 use Rattle.model.specs.Tick.{tick}
-use Rattle.model.specs.Fixed.{fixedConfig, fixedDid}
+use Rattle.model.specs.Fixed.{fixedConfig}
 use Rattle.model.proofs.Open.{whole}
-
--- a configuration with other sessions, identifiers or levels
-abbrev withSessions : Config → List SessionConfig → Config
-withSessions c x = record { physical = c .physical; functional = c .functional; sessions = x; services = c .services; dids = c .dids; levels = c .levels }
-
-abbrev withDids : Config → List DidConfig → Config
-withDids c x = record { physical = c .physical; functional = c .functional; sessions = c .sessions; services = c .services; dids = x; levels = c .levels }
-
-abbrev withLevels : Config → List SecurityLevelConfig → Config
-withLevels c x = record { physical = c .physical; functional = c .functional; sessions = c .sessions; services = c .services; dids = c .dids; levels = x }
-
--- a client, and the two addresses that it can call
-abbrev client : ℕ
-client = 3712
-
-abbrev server : ℕ
-server = 16
-
-abbrev everyone : ℕ
-everyone = 2015
-
--- a server in a session, with a level held
-abbrev serverIn : Config → ℕ → ℕ → State
-serverIn c session level = record {
-  config = c;
-  session = record { sessionType = session; level = level; lastRx = 0 };
-  security = freshSecurity;
-  periodic = [];
-  pending = none;
-  mode = physical;
-  queue = [];
-}
-
-abbrev default : State
-default = serverIn fixedConfig 1 0
-
--- the fixed configuration with seeds of 32 bytes, with the level 7F, with a guarded periodic identifier, with a P2 of 70 seconds
-abbrev longSeeds : Config
-longSeeds = withLevels fixedConfig (record { level = 3; maxAttempts = 3; lockout = 10000; seedLength = 32; keyLength = 4 } ∷ [])
-
-abbrev reservedLevel : Config
-reservedLevel = withLevels fixedConfig (record { level = 0x7F; maxAttempts = 3; lockout = 10000; seedLength = 4; keyLength = 4 } ∷ [])
-
-abbrev guardedPeriodic : Config
-guardedPeriodic = withDids fixedConfig (fixedDid 0xF202 3 ∷ [])
-
-abbrev longP2 : Config
-longP2 = withSessions fixedConfig (record { sessionType = 1; p2 = 70000; p2Ext = 5000; s3 = 5000 } ∷ [])
-
--- a subscription of F201, and a server that holds as many as it can, of another client
-abbrev subscribed : ℕ → Subscription
-subscribed x = record { identifier = 0xF201; client = x; interval = 50; next = 6000 }
-
-abbrev crowded : State
-crowded = withRecords default (default .session) (default .security) (replicate 16 (subscribed 1))
-
--- a server that was asked for a service and answered 78
-abbrev pendingFor : ℕ → State
-pendingFor sid = withPending (serverIn fixedConfig 3 0) (some (record { dst = client; sid = sid; deadline = 6000 }))
-
-abbrev busy : State
-busy = pendingFor 0x31
-
--- a request of the client, with what is handed in for its act, and the value table
-abbrev frame : ℕ → List ℕ → Given → Table → Request
-frame dst bytes given table = record { inbound = record { time = 100; src = client; dst = dst; frame = bytes }; given = given; table = table }
-
--- whose act is done, or gives bytes; and with an identifier whose value is 2A
-abbrev asks : List ℕ → Request
-asks bytes = frame server bytes given0 emptyTable
-
-abbrev acts : List ℕ → List ℕ → Request
-acts bytes given = frame server bytes (record { err = 0; bytes = given }) emptyTable
-
-abbrev reads : List ℕ → ℕ → Request
-reads bytes x = frame server bytes given0 (record { rows = record { identifier = x; err = 0; start = 0; len = 1 } ∷ []; pool = 0x2A ∷ [] })
-
-abbrev seed : List ℕ
-seed = 0x01 ∷ 0x02 ∷ 0x03 ∷ 0x04 ∷ []
-
-abbrev to : ℕ → List ℕ → List Frame
-to dst bytes = record { dst = dst; bytes = bytes } ∷ []
+use Rattle.model.proofs.IsoScenes.{client, server, everyone, serverIn, default, longSeeds, twoLevels, reservedLevel, guardedPeriodic, longP2, subscribed, crowded, watched, pendingFor, busy, frame, asks, acts, reads, seed, to}
 
 -- a case: a state, a request, the frames that the definition sends, and those that the standard sends
 record Case : Type 0 where
@@ -153,7 +70,7 @@ read-first-unsupported =
 -- a higher level opens what a lower one guards
 abbrev level-order : Case
 level-order =
-    case (serverIn fixedConfig 3 5) (reads (0x22 ∷ 0xF1 ∷ 0x90 ∷ []) 0xF190)
+    case (serverIn twoLevels 3 5) (reads (0x22 ∷ 0xF1 ∷ 0x90 ∷ []) 0xF190)
     (to client (0x62 ∷ 0xF1 ∷ 0x90 ∷ 0x2A ∷ []))
     (to client (Iso.negative 0x22 Iso.securityAccessDenied))
 
@@ -358,28 +275,32 @@ pub p2-cut : request maxFrame (serverIn longP2 1 0) (asks (0x10 ∷ 0x01 ∷ [])
 unfolding whole
 p2-cut = refl
 
--- mode 04 with no identifiers stops nothing, where the standard stops all
-pub stop-all : request maxFrame crowded (asks (0x2A ∷ 0x04 ∷ [])) .step .state .periodic ≡ crowded .periodic
+-- a guarded identifier is subscribed for a client that holds no level
+pub periodic-level-sent : request maxFrame (serverIn guardedPeriodic 3 0) (asks (0x2A ∷ 0x01 ∷ 0x02 ∷ [])) .step .state .periodic
+    ≡ record { identifier = 0xF202; client = client; interval = 2000; next = 2100 } ∷ []
+unfolding whole
+periodic-level-sent = refl
+
+-- mode 04 with no identifiers stops nothing, where the standard stops all: the asking client's own stays
+pub stop-all : request maxFrame watched (asks (0x2A ∷ 0x04 ∷ [])) .step .state .periodic ≡ subscribed 6000 client ∷ []
 unfolding whole
 stop-all = refl
 
 -- subscriptions outlive their session, where the standard stops them: here it ends by S3
-abbrev watched : State
-watched = withRecords (serverIn fixedConfig 3 0) (serverIn fixedConfig 3 0 .session) freshSecurity (subscribed client ∷ [])
-
 pub subscriptions-outlive : (tick maxFrame watched 5001 emptyTable .step .state .session .sessionType ≡ Iso.defaultSession)
-    × (tick maxFrame watched 5001 emptyTable .step .state .periodic ≡ watched .periodic)
+    × (tick maxFrame watched 5001 emptyTable .step .state .periodic ≡ subscribed 6000 client ∷ [])
 unfolding whole
 subscriptions-outlive = (refl, refl)
 
--- S3 runs while a request is pending, where the standard stops it: the session ends under the request
-pub s3-while-pending : (tick maxFrame busy 5001 emptyTable .step .state .session .sessionType ≡ Iso.defaultSession) × (tick maxFrame busy 5001 emptyTable .step .state .pending ≡ busy .pending)
+-- S3 runs while a request is pending, where the standard stops it: the session ends under the request, for which 78 was sent again at 5000
+pub s3-while-pending : (tick maxFrame (pendingFor 0x31 10000) 5001 emptyTable .step .state .session .sessionType ≡ Iso.defaultSession)
+    × (tick maxFrame (pendingFor 0x31 10000) 5001 emptyTable .step .state .pending ≡ pendingFor 0x31 10000 .pending)
 unfolding whole
 s3-while-pending = (refl, refl)
 
 -- a reset that was pending is answered, and the session stays, where the standard's is the default one
-pub pending-reset : (complete maxFrame (pendingFor 0x11) 200 (0x01 ∷ []) .state .queue ≡ to client (0x51 ∷ 0x01 ∷ []))
-    × (complete maxFrame (pendingFor 0x11) 200 (0x01 ∷ []) .state .session .sessionType ≡ 3)
+pub pending-reset : (complete maxFrame (pendingFor 0x11 5000) 200 (0x01 ∷ []) .state .queue ≡ to client (0x51 ∷ 0x01 ∷ []))
+    × (complete maxFrame (pendingFor 0x11 5000) 200 (0x01 ∷ []) .state .session .sessionType ≡ 3)
 unfolding whole
 pending-reset = (refl, refl)
 
