@@ -27,4 +27,5 @@ pub mod Tick
 pub mod Drain
 pub mod History
 pub mod Fixed
+pub mod Iso
 pub mod Alike
