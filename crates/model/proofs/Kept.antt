@@ -17,7 +17,7 @@ use Rattle.model.specs.Service.{Effect, changed, changedAfter, apply}
 use Rattle.model.specs.Service2A.{subscription}
 use Rattle.model.specs.Request.{Request, Answer, seen, served, lengthFits, heard, addressed, routed, request}
 use Rattle.model.specs.Pending.{completed, failed, complete, fail}
-use Rattle.model.specs.Tick.{expired, s3, postponed, refreshed, Passed, advanced, dueSent, passOne, passAll, Ticked, begins, periodic, thenPeriodic, tick}
+use Rattle.model.specs.Tick.{expired, s3, refreshed, Passed, advanced, dueSent, passOne, passAll, Ticked, begins, periodic, thenPeriodic, tick}
 use Rattle.model.specs.Drain.{records, Drained, drain}
 use Rattle.model.specs.History.{Call, requests, questions, ticks, completes, fails, drains, call}
 use Rattle.model.proofs.Dispatch.{at-guarded}
@@ -77,13 +77,17 @@ module _ (c : Config) where
   kept-pending : (s : State) (o : Option PendingRequest) → Kept c s → Kept c (withPending s o)
   kept-pending s o i = record { config = i .config; page = i .page }
 
+  kept-begun : (s : State) (to sid : ℕ) (now : Moment) → Kept c s → Keeps c (begun s to sid now)
+  unfolding begun
+  kept-begun s to sid now i = kept-queued (withPending s _) to (negativeFrame sid 0x78) (kept-pending s _ i)
+
   kept-replied : (limit : ℕ) (s : State) (to sid : ℕ) (now : Moment) (r : Reply) → Kept c s → Keeps c (replied limit s to sid now r)
-  unfolding replied begun
+  unfolding replied
   kept-replied limit s to sid now silent i = keeps i
   kept-replied limit s to sid now (positive p) i = kept-confirmed limit s to sid p i
   kept-replied limit s to sid now (negative code) i = kept-refused s to sid code i
   kept-replied limit s to sid now (always code) i = kept-queued s to (negativeFrame sid code) i
-  kept-replied limit s to sid now pends i = kept-queued (withPending s _) to (negativeFrame sid 0x78) (kept-pending s _ i)
+  kept-replied limit s to sid now pends i = kept-begun s to sid now i
 
   kept-apply : (limit : ℕ) (s : State) (to sid : ℕ) (now : Moment) (e : Effect) → Kept c s → Effected e → Keeps c (apply limit s to sid now e)
   unfolding apply changedAfter
@@ -142,10 +146,7 @@ module _ (c : Config) where
   pub kept-refreshed : (s : State) (now : Moment) (o : Option PendingRequest) → Kept c s → Keeps c (refreshed s now o)
   unfolding refreshed
   kept-refreshed s now none i = keeps i
-  kept-refreshed s now (some p) i =
-      either (Keeps c) (leb (p .deadline) now)
-      (kept-queued (withPending s (some (postponed s now p))) (p .dst) (negativeFrame (p .sid) 0x78) (kept-pending s (some (postponed s now p)) i))
-      (keeps i)
+  kept-refreshed s now (some p) i = either (Keeps c) (leb (p .deadline) now) (kept-begun s (p .dst) (p .sid) now i) (keeps i)
 
   kept-periodic : (limit : ℕ) (now : Moment) (t : Table) (s : State) → Kept c s → Ticks c (periodic limit now t s)
   kept-periodic limit now t s i = record { step = record { state = record { config = i .config; page = page-all limit now t (s .periodic) (begins s) (i .page) refl } } }

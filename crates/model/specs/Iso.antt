@@ -1,4 +1,4 @@
--- What ISO 14229-1 fixes of the fourteen services. Nothing here rests on the server's definition; the theorems of proofs/Iso* compare the two.
+-- What ISO 14229-1 fixes of the fourteen services. Nothing here rests on the server's definition; the theorems of proofs/Iso compare the two.
 -- It is written from working knowledge of the standard (2013 and 2020), which is not quoted. Clauses are those of the 2013 edition, and are named only where they are known.
 -- A byte is a number below 256, a message a list of bytes, and times are in milliseconds.
 use Prim.Native.Nat.{ℕ, _+_, _*_, _/_, _%_, _<_}

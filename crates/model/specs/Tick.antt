@@ -7,11 +7,11 @@ use lib.ListN.{length}
 use lib.Dec.{eqb, leb, ltb}
 use Rattle.model.specs.Tests.{pick}
 use Rattle.model.specs.Numbers.{Moment, maxOutbox, maxTime}
-use Rattle.model.specs.Config.{findSession, s3Of, p2ExtOf}
+use Rattle.model.specs.Config.{findSession, s3Of}
 use Rattle.model.specs.Values.{Outcome, bytes, error, Table, value}
-use Rattle.model.specs.Frame.{Frame, negativeFrame}
-use Rattle.model.specs.State.{Subscription, PendingRequest, State, Step, step, valid, withPending, withRecords, opened, cleared}
-use Rattle.model.specs.Reply.{queued}
+use Rattle.model.specs.Frame.{Frame}
+use Rattle.model.specs.State.{Subscription, PendingRequest, State, Step, step, valid, withRecords, opened, cleared}
+use Rattle.model.specs.Reply.{begun}
 
 -- S3: the session is not 1 and now minus last_rx is above s3 (a clock that went back is not above)
 abbrev pub expired : State → Moment → Bool
@@ -21,13 +21,10 @@ expired s now = not (eqb (s .session .sessionType) 1) && ltb (s3Of (findSession 
 unfoldable pub s3 : State → Moment → State
 s3 s now = pick (expired s now) (withRecords s (opened (s .session) 1) (cleared (s .security)) (s .periodic)) s
 
--- at now >= deadline the deadline becomes now plus P2* of the session, then 0x78 is queued
-abbrev pub postponed : State → Moment → PendingRequest → PendingRequest
-postponed s now p = record { dst = p .dst; sid = p .sid; deadline = now + p2ExtOf (findSession (s .config) (s .session .sessionType)) }
-
+-- at now >= deadline the request becomes pending anew: the deadline becomes now plus P2* of the session, then 0x78 is queued
 unfoldable pub refreshed : State → Moment → Option PendingRequest → Step
 refreshed s now none = step 0 s
-refreshed s now (some p) = pick (leb (p .deadline) now) (queued (withPending s (some (postponed s now p))) (p .dst) (negativeFrame (p .sid) 0x78)) (step 0 s)
+refreshed s now (some p) = pick (leb (p .deadline) now) (begun s (p .dst) (p .sid) now) (step 0 s)
 
 -- the periodic step so far: its result and error byte, the entries passed, the queue
 pub record Passed : Type 0 where

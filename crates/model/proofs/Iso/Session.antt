@@ -17,8 +17,8 @@ use Rattle.model.specs.Service11.{reset, service11}
 use Rattle.model.specs.Service28.{communication, service28}
 use Rattle.model.specs.Service31.{routine, service31}
 use Rattle.model.specs.Service3E.{service3E}
-use Rattle.model.proofs.IsoFrames.{responseOf, suppress-bit, suppressing, refusal-code, two-bytes}
-use Rattle.model.proofs.IsoRequest.{Refuses, answer, decided, by-act}
+use Rattle.model.proofs.Iso.Frames.{responseOf, suppress-bit, suppressing, refusal-code, two-bytes}
+use Rattle.model.proofs.Iso.Request.{Refuses, answer, decided, by-act}
 
 -- the session parameter record: P2 in ms and P2* in 10 ms, each as its low 16 bits
 pub session-fields : (x : ℕ) (row : SessionConfig) → timings x (some row) ≡ Iso.sessionFields x (row .p2 % 65536) (row .p2Ext / 10 % 65536)

@@ -14,8 +14,8 @@ use Rattle.model.specs.Values.{bytes, error, outcome}
 use Rattle.model.specs.State.{Failed, Lock, Security}
 use Rattle.model.specs.Service.{Seen, Act, Part, part}
 use Rattle.model.specs.Service27.{isLock, relock, locked, awaits, keyFits, failedCount, incrementFailed, setLockout, seedGiven, seedAsked, requestSeed, lockedOut, denied, judged, sendKey, securityAccess, service27}
-use Rattle.model.proofs.IsoEnter.{entered}
-use Rattle.model.proofs.IsoRequest.{Refuses, answer}
+use Rattle.model.proofs.Iso.Enter.{entered}
+use Rattle.model.proofs.Iso.Request.{Refuses, answer}
 
 -- the act of securityAccess, asked with parts of the frame
 abbrev pub asked : List Part → Act

@@ -16,7 +16,7 @@ use Rattle.model.specs.Pending.{complete, fail}
 use Rattle.model.specs.Tick.{tick}
 use Rattle.model.specs.Fixed.{fixedConfig}
 use Rattle.model.proofs.Open.{whole}
-use Rattle.model.proofs.IsoScenes.{client, server, everyone, serverIn, default, longSeeds, twoLevels, reservedLevel, guardedPeriodic, longP2, subscribed, crowded, watched, pendingFor, busy, frame, asks, acts, reads, seed, to}
+use Rattle.model.proofs.Iso.Scenes.{client, server, everyone, serverIn, default, longSeeds, twoLevels, reservedLevel, guardedPeriodic, longP2, subscribed, crowded, watched, pendingFor, busy, frame, asks, acts, reads, seed, to}
 
 -- a case: a state, a request, the frames that the definition sends, and those that the standard sends
 record Case : Type 0 where

@@ -16,9 +16,9 @@ use Rattle.model.specs.Values.{bytes, Table, value}
 use Rattle.model.specs.Frame.{negativeFrame}
 use Rattle.model.specs.State.{State, Step, step, Subscription, PendingRequest, valid, withPending, withQueue}
 use Rattle.model.specs.Reply.{queued, pends, replied, begun}
-use Rattle.model.specs.Tick.{s3, postponed, refreshed, Passed, passOne, dueSent, periodic, thenPeriodic, tick}
+use Rattle.model.specs.Tick.{s3, refreshed, Passed, passOne, dueSent, periodic, thenPeriodic, tick}
 use Rattle.model.specs.Pending.{completed, failed, complete, fail}
-use Rattle.model.proofs.IsoFrames.{to, confirms}
+use Rattle.model.proofs.Iso.Frames.{to, confirms}
 
 -- S3 and P2* of the session that a state is in
 abbrev pub s3Here : State → Span
@@ -67,15 +67,12 @@ keeps s client m = go (ltb (length (s .queue)) maxOutbox)
     go false = (refl, refl)
 
 refresh-keeps : (s : State) (now : Moment) (o : Option PendingRequest) → (refreshed s now o .state .session ≡ s .session) × (refreshed s now o .state .security ≡ s .security)
-unfolding refreshed
+unfolding refreshed begun
 refresh-keeps s now none = (refl, refl)
 refresh-keeps s now (some p) = go (leb (p .deadline) now)
   where
-    again : Step
-    again = queued (withPending s (some (postponed s now p))) (p .dst) (negativeFrame (p .sid) 0x78)
-
-    go : (t : Bool) → (pick t again (step 0 s) .state .session ≡ s .session) × (pick t again (step 0 s) .state .security ≡ s .security)
-    go true = keeps (withPending s (some (postponed s now p))) (p .dst) (negativeFrame (p .sid) 0x78)
+    go : (t : Bool) → (pick t (begun s (p .dst) (p .sid) now) (step 0 s) .state .session ≡ s .session) × (pick t (begun s (p .dst) (p .sid) now) (step 0 s) .state .security ≡ s .security)
+    go true = keeps (withPending s _) (p .dst) (negativeFrame (p .sid) 0x78)
     go false = (refl, refl)
 
 pub s3-ticks : (limit : ℕ) (s : State) (now : Moment) (t : Table) → valid limit s ≡ true → now ≤ maxTime
@@ -96,7 +93,7 @@ pending-begins limit s client sid now room = rw (lt-ltb _ _ room) (refl, refl)
 pub pending-repeats : (s : State) (now : Moment) (p : PendingRequest) → p .deadline ≤ now → length (s .queue) < maxOutbox
     → (refreshed s now (some p) .state .pending ≡ some (record { dst = p .dst; sid = p .sid; deadline = Iso.nextDue (p2StarHere s) now }))
     × (refreshed s now (some p) .state .queue ≡ s .queue ++ to (p .dst) (Iso.pendingMessage (p .sid) ∷ []))
-unfolding refreshed queued
+unfolding refreshed begun queued
 pending-repeats s now p h room = rw (le-leb _ _ h, lt-ltb _ _ room) (refl, refl)
 
 -- and not before

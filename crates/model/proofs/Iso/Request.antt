@@ -29,7 +29,7 @@ use Rattle.model.specs.Service2F.{service2F}
 use Rattle.model.specs.Service31.{service31}
 use Rattle.model.specs.Service36.{service36}
 use Rattle.model.proofs.Edges.{busy-first}
-use Rattle.model.proofs.IsoFrames.{responseOf, to, functionally, answered, refusal-code}
+use Rattle.model.proofs.Iso.Frames.{responseOf, to, functionally, answered, refusal-code}
 
 -- a service's answer, in the standard's words
 abbrev pub answer : Served → Option Iso.Response

@@ -32,9 +32,9 @@ use Rattle.model.specs.Service37.{service37}
 use Rattle.model.specs.Service38.{service38}
 use Rattle.model.specs.Request.{Request, seen, service, served, request}
 use Rattle.model.proofs.Laws.{either}
-use Rattle.model.proofs.IsoFrames.{responseOf, to, functionally, every-map, every-both}
-use Rattle.model.proofs.IsoRequest.{answer, Arrives, serves, responds}
-use Rattle.model.proofs.IsoData.{Ends, ends-all}
+use Rattle.model.proofs.Iso.Frames.{responseOf, to, functionally, every-map, every-both}
+use Rattle.model.proofs.Iso.Request.{answer, Arrives, serves, responds}
+use Rattle.model.proofs.Iso.Data.{Ends, ends-all}
 
 -- a reply that is neither silent nor sent whatever the addressing
 abbrev Spoken : Reply → Type 0

@@ -18,9 +18,9 @@ use Rattle.model.specs.Reply.{negative}
 use Rattle.model.specs.Service.{Seen, Effect, schedules}
 use Rattle.model.specs.Service2A.{rateOf, isSubscription, subscription, renewed, register, intervalFor, registered, registerAll, cancelAll, transmission, service2A}
 use Rattle.model.proofs.Laws.{left, both}
-use Rattle.model.proofs.IsoEnter.{Entry, entered, kept}
-use Rattle.model.proofs.IsoFrames.{responseOf}
-use Rattle.model.proofs.IsoRequest.{Refuses, answer}
+use Rattle.model.proofs.Iso.Enter.{Entry, entered, kept}
+use Rattle.model.proofs.Iso.Frames.{responseOf}
+use Rattle.model.proofs.Iso.Request.{Refuses, answer}
 
 -- a byte names the identifier whose low byte it is
 pub periodic-identifier : (low : ℕ) → low < 256 → periodicDid low ≡ Iso.periodicIdentifier low

@@ -23,8 +23,8 @@ use Rattle.model.specs.Service36.{transferred, service36}
 use Rattle.model.specs.Service37.{service37}
 use Rattle.model.specs.Service38.{service38}
 use Rattle.model.proofs.Laws.{right, either}
-use Rattle.model.proofs.IsoFrames.{responseOf, refusal-code}
-use Rattle.model.proofs.IsoRequest.{Refuses, answer, decided, by-act}
+use Rattle.model.proofs.Iso.Frames.{responseOf, refusal-code}
+use Rattle.model.proofs.Iso.Request.{Refuses, answer, decided, by-act}
 
 -- r is the record of x: x is supported in the session, its level is held, and the value table says r of it
 pub record Record (v : Seen) (x : ℕ) (r : List ℕ) : Type 0 where
