@@ -7,6 +7,7 @@ use mathlib.Core.Option.{Option, some, none, Option·map, Option·none-ne-some, 
 use native.Mathlib.Omega.{arith}
 use lib.ListN.{length, getD}
 use Rattle.model.specs.Tests.{pick, all, first, place, examined}
+use Rattle.model.proofs.Laws.{left, right, either}
 
 -- what a place says of a list
 pub record Found {A : Type 0} (p : A → Bool) (l : List A) (d : A) (n : ℕ) : Type 0 where
@@ -57,3 +58,8 @@ first-in p (b ∷ l) a e = go (first-in p l a) (p b) refl e
     go : (first p l ≡ some a → List·Memᴰ a l × (p a ≡ true)) → (t : Bool) → p b ≡ t → pick t (some b) (first p l) ≡ some a → List·Memᴰ a (b ∷ l) × (p a ≡ true)
     go k true h f = let g : b ≡ a = cc in (List·Memᴰ·head (sym g), rw (← g) h)
     go k false h f = (List·Memᴰ·tail (k f .0), k f .1)
+
+-- a lookup gives nothing, or an element that passes the test that all pass: what holds of both holds of what it gives
+pub first-or : {A : Type 0} (P : Option A → Type 0) (p q : A → Bool) (l : List A) → all q l ≡ true → P none → ((a : A) → q a ≡ true → P (some a)) → P (first p l)
+first-or P p q [] h n f = n
+first-or P p q (a ∷ l) h n f = either P (p a) (f a (left (q a) (all q l) h)) (first-or P p q l (right (q a) (all q l) h) n f)

@@ -8,7 +8,7 @@ use native.Mathlib.Omega.{arith}
 use lib.ListN.{length, length-append}
 use lib.Dec.{leb, ltb, eqb}
 use borrow.Author.Tests.{ltb-true, leb-true, le-leb, eqb-true}
-use Rattle.model.specs.Tests.{pick, memb, all, any, first, changeFirst, without, enter}
+use Rattle.model.specs.Tests.{pick, memb, all, any, changeFirst, without, enter}
 use Rattle.model.specs.Config.{tableWithin}
 
 -- both tests pass
@@ -60,11 +60,6 @@ all-enter most p q f new l m k n h e = go (any p l) (ltb (length l) most) e
 pub alike : {A B : Type 0} (R : A → B → Type 0) (b : Bool) {x y : A} {z w : B} → R x z → R y w → R (pick b x y) (pick b z w)
 alike R true p q = p
 alike R false p q = q
-
--- a lookup gives nothing, or an element that passes the test that all pass: what holds of both holds of what it gives
-pub first-or : {A : Type 0} (P : Option A → Type 0) (p q : A → Bool) (l : List A) → all q l ≡ true → P none → ((a : A) → q a ≡ true → P (some a)) → P (first p l)
-first-or P p q [] h n f = n
-first-or P p q (a ∷ l) h n f = either P (p a) (f a (left (q a) (all q l) h)) (first-or P p q l (right (q a) (all q l) h) n f)
 
 -- a table that keeps the numbers has at most so many rows
 pub within-length : {A : Type 0} (most : ℕ) (q : A → Bool) (l : List A) → tableWithin most q l ≡ true → length l ≤ most

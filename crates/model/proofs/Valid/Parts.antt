@@ -12,7 +12,8 @@ use Rattle.model.specs.Numbers.{Moment, Span, maxTime, maxPeriodic, maxO
 use Rattle.model.specs.Config.{Config, SessionConfig, DidConfig, SecurityLevelConfig, isSession, isDid, isLevel, findSession, findDid, findLevel, p2ExtOf, minIntervalOf, lockoutOf, sessionWithin, serviceWithin, didWithin, levelWithin, within, tableWithin}
 use Rattle.model.specs.Frame.{Frame}
 use Rattle.model.specs.State.{Subscription, State, valid, momentValid, securityValid, subscriptionValid, pendingValid, frameValid}
-use Rattle.model.proofs.Laws.{both, left, right, first-or, within-all}
+use Rattle.model.proofs.Laws.{both, left, right, within-all}
+use Rattle.model.proofs.FirstRow.{first-or}
 
 -- a table of subscriptions keeps the numbers
 abbrev pub Subscribed : List Subscription → Type 0
