@@ -44,17 +44,16 @@ impl Rules {
     }
 
     fn at_limits(&mut self, c: &Config) {
-        let longest = |lists: &mut dyn Iterator<Item = usize>| lists.any(|n| n == numbers::MAX_LIST);
         let limits = [
             ("8 sessions", c.sessions.len() == numbers::MAX_SESSIONS),
             ("24 services", c.services.len() == numbers::MAX_SERVICES),
             ("128 identifiers", c.identifiers.len() == numbers::MAX_IDENTIFIERS),
             ("8 levels", c.levels.len() == numbers::MAX_LEVELS),
-            ("list of 8", longest(&mut c.services.iter().map(|s| s.sessions.len()))),
+            ("list of 8", c.services.iter().any(|s| s.sessions.len() == 8)),
             ("span 2^32 - 1", c.sessions.iter().any(|s| s.s3 == numbers::MAX_SPAN - 1)),
             ("seed of 32", c.levels.iter().any(|l| l.seed == 32)),
             ("key of 32", c.levels.iter().any(|l| l.key == 32)),
-            ("no row at all", *c == Config { ..Config::default() }),
+            ("no row at all", *c == Config::default()),
         ];
         for (name, _) in limits.iter().filter(|(_, there)| *there) {
             self.hits.hit(&format!("fresh: {name}"));

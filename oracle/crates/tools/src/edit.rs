@@ -1,0 +1,1 @@
+pub fn apply(_:&str,_:&str)->Result<(),String>{todo!()}
