@@ -8,6 +8,7 @@ mod frames;
 mod report;
 mod rng;
 mod sample;
+mod scenes;
 mod scripts;
 mod shrink;
 mod states;

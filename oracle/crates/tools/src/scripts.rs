@@ -8,11 +8,11 @@ use rules::Rules;
 use crate::rng::Rng;
 use crate::{configs, frames, states};
 
-struct Maker {
-    rng: Rng,
-    player: Player,
+pub struct Maker {
+    pub rng: Rng,
+    pub player: Player,
     rules: Rules,
-    now: u64,
+    pub now: u64,
     lines: Vec<Line>,
 }
 
@@ -26,6 +26,9 @@ pub fn script(seed: u64, number: u64) -> Vec<Line> {
     maker.begin();
     let calls = 4 + maker.rng.below(20);
     for _ in 0..calls {
+        if maker.rng.chance(12) {
+            maker.scene();
+        }
         maker.call();
     }
     maker.lines
@@ -45,7 +48,7 @@ fn rows(c: &Config) -> Vec<Line> {
 }
 
 impl Maker {
-    fn add(&mut self, line: Line) {
+    pub fn add(&mut self, line: Line) {
         let mut out = String::new();
         let step = self.player.step(&mut self.rules, &line, &mut out);
         assert!(step.is_some(), "{line:?} asks for more than the types hold");
