@@ -179,3 +179,20 @@ fn call(name: &str, w: &mut Words) -> Option<Line> {
         _ => return None,
     })
 }
+
+#[cfg(test)]
+mod tests {
+    use super::*;
+
+    #[test]
+    fn only_the_form_is_read() {
+        assert_eq!(parse("tick 7"), Some(Line::Tick(7)));
+        for bad in [
+            "", "tick", "tick ", "tick 07", "tick +7", "tick -7", "tick 7 ", "tick  7", " tick 7", "tick 7 8",
+            "tick 18446744073709551616", "fail 0 256", "pool 0", "pool 0a", "pool ", "pool", "Tick 7", "ticks 7",
+            "state 1 0 0 2", "row 1 0 4294967296 0", "fresh 1", "tick 7\r",
+        ] {
+            assert_eq!(parse(bad), None, "{bad:?}");
+        }
+    }
+}

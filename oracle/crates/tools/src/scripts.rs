@@ -166,3 +166,24 @@ impl Maker {
         }
     }
 }
+
+#[cfg(test)]
+mod tests {
+    use super::*;
+    use form::parse::parse;
+
+    #[test]
+    fn every_line_reads_back() {
+        for number in 0..300 {
+            for line in script(11, number) {
+                assert_eq!(parse(&print::line(&line)), Some(line));
+            }
+        }
+    }
+
+    #[test]
+    fn one_seed_makes_one_script() {
+        assert_eq!(script(11, 5), script(11, 5));
+        assert_ne!(script(11, 5), script(12, 5));
+    }
+}

@@ -1,7 +1,7 @@
 //! Makes a failing input smaller: first by leaving out items, then by making each item simpler.
 
 /// Runs allowed for one input, so that a slow command cannot hold the comparer for ever.
-const MOST_RUNS: usize = 4000;
+const MOST_RUNS: usize = 2000;
 
 pub struct Shrinker<'a, T> {
     /// Whether an input still shows what is looked for.
@@ -87,7 +87,10 @@ pub fn simpler_line(line: &str) -> Vec<String> {
 fn simpler_word(word: &str) -> Vec<String> {
     let mut all = Vec::new();
     if let Ok(n) = word.parse::<u64>() {
-        all.extend([0, 1, n / 2, n.saturating_sub(1)].iter().filter(|m| **m < n).map(u64::to_string));
+        // 0, 1, then ever smaller steps down, so that a limit is met in few runs.
+        let steps = (1..64).map(|k| n >> k).take_while(|step| *step > 0);
+        let smaller = [0, 1].into_iter().chain(steps.map(|step| n - step));
+        all.extend(smaller.filter(|m| *m < n).map(|m| m.to_string()));
     }
     if let Some(bytes) = form::parse::unhex(word) {
         all.extend(simpler_bytes(&bytes).iter().map(|b| form::print::hex(b)));
@@ -102,6 +105,7 @@ fn simpler_bytes(bytes: &[u8]) -> Vec<Vec<u8>> {
         return Vec::new();
     }
     let mut all = vec![vec![], bytes[..n / 2].to_vec(), bytes[n / 2..].to_vec()];
+    all.extend((2..12).map(|k| n >> k).take_while(|cut| *cut > 1).map(|cut| bytes[..n - cut].to_vec()));
     all.extend((0..n.min(48)).map(|i| [&bytes[..i], &bytes[i + 1..]].concat()));
     if n > 48 {
         all.push(bytes[..n - 1].to_vec());
@@ -125,4 +129,30 @@ pub fn simpler_record(record: &[u8]) -> Vec<Vec<u8>> {
         [&(body.len() as u16).to_le_bytes()[..], &record[2..4], &body].concat()
     };
     simpler_bytes(&record[4..]).into_iter().map(mended).collect()
+}
+
+#[cfg(test)]
+mod tests {
+    use super::*;
+
+    #[test]
+    fn leaves_only_what_shows_it() {
+        let lines: Vec<String> = (0..40).map(|n| format!("tick {n}00")).collect();
+        let mut shows = |lines: &[String]| {
+            let numbers: Vec<u64> = lines.iter().filter_map(|l| l[5..].parse().ok()).collect();
+            numbers.iter().any(|n| *n >= 1234) && numbers.iter().any(|n| *n < 1000)
+        };
+        let simpler = |line: &String| simpler_line(line);
+        let small = Shrinker { shows: &mut shows, simpler: &simpler }.shrink(lines);
+        assert_eq!(small, ["tick 0", "tick 1234"]);
+    }
+
+    #[test]
+    fn shortens_bytes_in_place() {
+        let mut shows = |lines: &[String]| lines.iter().any(|l| l.contains("7F"));
+        let simpler = |line: &String| simpler_line(line);
+        let line = vec!["pool 0102037F05060708".to_string()];
+        let small = Shrinker { shows: &mut shows, simpler: &simpler }.shrink(line);
+        assert_eq!(small, ["pool 7F"]);
+    }
 }

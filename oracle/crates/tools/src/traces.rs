@@ -15,7 +15,7 @@ pub fn trace(seed: u64, number: u64) -> Vec<u8> {
     let mut run = Run::new(&mut rules);
     let mut now = rng.pick(&[0, 100, states::LATEST - 6000]);
     let mut bytes = Vec::new();
-    let count = 3 + rng.below(25);
+    let count = if rng.chance(10) { 60 + rng.below(150) } else { 3 + rng.below(25) };
     for _ in 0..count {
         let record = record(&mut rng, &run, &mut now);
         run.step(&mut rules, &record, &mut String::new());
@@ -35,7 +35,8 @@ fn record(rng: &mut Rng, run: &Run, now: &mut u64) -> Record {
         0..9 => {
             let frame = frames::frame(rng, s);
             let dst = rng.pick(&[16, 16, 16, 2015, 17]);
-            let src = states::client(rng);
+            // Enough clients to fill the table with the one identifier that can be subscribed to.
+            let src = if rng.chance(30) { rng.below(24) as u32 } else { states::client(rng) };
             Record::Request(Request { time: time(rng, run, now), src, dst, frame })
         }
         9..12 => Record::Tick(time(rng, run, now)),
