@@ -137,7 +137,7 @@ mod tests {
 
     #[test]
     fn leaves_only_what_shows_it() {
-        let lines: Vec<String> = (0..40).map(|n| format!("tick {n}00")).collect();
+        let lines: Vec<String> = (0..40).map(|n| format!("tick {}", n * 100)).collect();
         let mut shows = |lines: &[String]| {
             let numbers: Vec<u64> = lines.iter().filter_map(|l| l[5..].parse().ok()).collect();
             numbers.iter().any(|n| *n >= 1234) && numbers.iter().any(|n| *n < 1000)
