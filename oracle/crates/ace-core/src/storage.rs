@@ -17,7 +17,9 @@ pub struct Vec<T, const N: usize> {
 
 impl<T, const N: usize> Vec<T, N> {
     pub fn new() -> Self {
-        Self { items: std::vec::Vec::new() }
+        Self {
+            items: std::vec::Vec::new(),
+        }
     }
 
     pub fn push(&mut self, item: T) -> Result<(), CapacityError> {

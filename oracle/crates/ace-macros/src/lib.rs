@@ -15,7 +15,9 @@ use parse::{Enum, Variant};
 #[proc_macro_derive(FrameCodec, attributes(frame))]
 pub fn frame_codec(input: TokenStream) -> TokenStream {
     let parsed = parse::parse_enum(input);
-    render(&parsed).parse().expect("FrameCodec: the rendered impl parses")
+    render(&parsed)
+        .parse()
+        .expect("FrameCodec: the rendered impl parses")
 }
 
 fn render(parsed: &Enum) -> String {

@@ -27,7 +27,11 @@ pub fn parse_enum(input: TokenStream) -> Enum {
         match token {
             TokenTree::Group(g) if g.delimiter() == Delimiter::Bracket => {
                 let arguments = frame_arguments(&g).map(arguments).unwrap_or_default();
-                error = arguments.into_iter().find(|(k, _)| k == "error").map(|(_, v)| v).or(error);
+                error = arguments
+                    .into_iter()
+                    .find(|(k, _)| k == "error")
+                    .map(|(_, v)| v)
+                    .or(error);
             }
             TokenTree::Ident(word) if word.to_string() == "enum" => {
                 name = tokens.next().map(|t| t.to_string());
@@ -72,7 +76,11 @@ fn finish(variants: &mut Vec<Variant>, now: &mut Variant) {
     if done.name.is_empty() {
         return;
     }
-    assert!(!done.pattern.is_empty(), "FrameCodec: {} has an id or an id_pat", done.name);
+    assert!(
+        !done.pattern.is_empty(),
+        "FrameCodec: {} has an id or an id_pat",
+        done.name
+    );
     variants.push(done);
 }
 

@@ -33,14 +33,24 @@ fn every_byte_is_the_variant_that_the_list_names() {
 
 #[test]
 fn inner_lists_read_the_same_byte() {
-    assert_eq!(named(0x3E), Some(ServiceIdentifier::UdsServiceRequest(UdsServiceRequest::TesterPresent)));
+    assert_eq!(
+        named(0x3E),
+        Some(ServiceIdentifier::UdsServiceRequest(
+            UdsServiceRequest::TesterPresent
+        ))
+    );
     assert_eq!(
         named(0x7E),
-        Some(ServiceIdentifier::UdsServiceResponse(UdsServiceResponse::TesterPresent))
+        Some(ServiceIdentifier::UdsServiceResponse(
+            UdsServiceResponse::TesterPresent
+        ))
     );
     assert_eq!(named(0x7F), Some(ServiceIdentifier::NegativeResponse));
     assert_eq!(named(0x85), Some(ServiceIdentifier::ServiceRequests(0x85)));
-    assert_eq!(named(0xC5), Some(ServiceIdentifier::ServiceRequestsPositiveResponse(0xC5)));
+    assert_eq!(
+        named(0xC5),
+        Some(ServiceIdentifier::ServiceRequestsPositiveResponse(0xC5))
+    );
 }
 
 #[test]
@@ -49,6 +59,10 @@ fn one_byte_is_too_short_for_a_sub_function() {
         .filter(|b| named(*b).is_some() && !UdsFrame::from_slice(&[*b]).is_valid())
         .collect();
     let services = [0x10, 0x11, 0x19, 0x27, 0x28, 0x29, 0x31, 0x3E];
-    let both: Vec<u8> = services.iter().copied().chain(services.iter().map(|b| b + 0x40)).collect();
+    let both: Vec<u8> = services
+        .iter()
+        .copied()
+        .chain(services.iter().map(|b| b + 0x40))
+        .collect();
     assert_eq!(refused, both);
 }

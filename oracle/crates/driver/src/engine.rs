@@ -28,13 +28,20 @@ pub struct Beside {
 
 impl Beside {
     pub fn new(straight: bool) -> Self {
-        Self { straight, live: None, lists: Lists::default() }
+        Self {
+            straight,
+            live: None,
+            lists: Lists::default(),
+        }
     }
 
     /// 10 comes first in every call, then 6.
     fn refused(s: &Server, time: u64) -> Option<Answer> {
         let numbers = [(10, !numbers::valid(s)), (6, time > MAX_TIME)];
-        numbers.iter().find(|(_, refused)| *refused).map(|(n, _)| Answer::of(*n))
+        numbers
+            .iter()
+            .find(|(_, refused)| *refused)
+            .map(|(n, _)| Answer::of(*n))
     }
 
     /// Runs one call on the server, which runs on from its last call unless another state was handed in.
@@ -52,7 +59,11 @@ impl Beside {
         s.state = live.read();
         self.live = Some(live);
         let (result, error) = result(&done);
-        Answer { result, error, act: asked.pop().unwrap_or_default() }
+        Answer {
+            result,
+            error,
+            act: asked.pop().unwrap_or_default(),
+        }
     }
 }
 
@@ -80,7 +91,11 @@ fn answered_by_rule(meter: &Meter, frame: &[u8]) -> bool {
 /// or with access type 0. The address test and last_rx are the server's own, by the empty frame.
 fn by_rule(meter: &mut Meter, r: &Request) -> Done {
     let (src, now) = (NodeAddress(r.src), moment(r.time));
-    let empty = InboundFrame { src: src.clone(), dst: NodeAddress(r.dst), data: &[] };
+    let empty = InboundFrame {
+        src: src.clone(),
+        dst: NodeAddress(r.dst),
+        data: &[],
+    };
     let accepted = meter.handle(&empty, now);
     if accepted.is_ok() || r.frame.len() > MAX_INBOUND {
         return accepted;
@@ -101,7 +116,11 @@ fn ask(meter: &mut Meter, r: &Request, straight: bool) -> Done {
     if !straight && answered_by_rule(meter, &r.frame) {
         return by_rule(meter, r);
     }
-    let frame = InboundFrame { src: NodeAddress(r.src), dst: NodeAddress(r.dst), data: &r.frame };
+    let frame = InboundFrame {
+        src: NodeAddress(r.src),
+        dst: NodeAddress(r.dst),
+        data: &r.frame,
+    };
     meter.handle(&frame, moment(r.time))
 }
 
@@ -131,7 +150,13 @@ impl Engine for Beside {
             return (7, self.fresh(&Config::default()).1);
         }
         let state = Live::new(config, &mut self.lists).read();
-        (0, Server { config: config.clone(), state })
+        (
+            0,
+            Server {
+                config: config.clone(),
+                state,
+            },
+        )
     }
 
     fn request(&mut self, s: &mut Server, v: &Values, r: &Request, o: &Outcome) -> Answer {
@@ -157,10 +182,21 @@ impl Engine for Beside {
         }
         let mut aside = Beside::new(self.straight);
         std::mem::swap(&mut aside.lists, &mut self.lists);
-        let outcome = Outcome { error: 0x22, bytes: Vec::new() };
+        let outcome = Outcome {
+            error: 0x22,
+            bytes: Vec::new(),
+        };
         let answer = aside.request(&mut s.clone(), v, r, &outcome);
         std::mem::swap(&mut aside.lists, &mut self.lists);
-        Answer { result: if answer.result == PANICKED { PANICKED } else { 0 }, error: 0, ..answer }
+        Answer {
+            result: if answer.result == PANICKED {
+                PANICKED
+            } else {
+                0
+            },
+            error: 0,
+            ..answer
+        }
     }
 
     fn tick(&mut self, s: &mut Server, v: &Values, time: u64) -> Answer {
@@ -168,7 +204,10 @@ impl Engine for Beside {
             return answer;
         }
         let before = s.state.clone();
-        let desk = Desk { values: v.clone(), ..Desk::default() };
+        let desk = Desk {
+            values: v.clone(),
+            ..Desk::default()
+        };
         let answer = self.run(s, desk, |meter| meter.tick(moment(time)));
         if !self.straight && twice(&before) {
             advance_each(&before, &mut s.state, time);
@@ -199,10 +238,15 @@ impl Engine for Beside {
         let mut out = Bounded::new();
         let mut count = 0;
         let answer = self.run(s, Desk::default(), |meter| {
-            count = meter.drain_outbox(&mut out).map_err(|_| ServerError::OutboxFull)?;
+            count = meter
+                .drain_outbox(&mut out)
+                .map_err(|_| ServerError::OutboxFull)?;
             Ok(())
         });
-        let frames: Vec<_> = out.iter().map(|(dst, frame)| (dst.0, frame.to_vec())).collect();
+        let frames: Vec<_> = out
+            .iter()
+            .map(|(dst, frame)| (dst.0, frame.to_vec()))
+            .collect();
         let written = numbers::records(&frames);
         buffer[..written.len()].copy_from_slice(&written);
         (answer.result, count)

@@ -39,11 +39,19 @@ impl Desk {
 
     /// The place of a byte that the server hands over by value, if that is the value there.
     fn byte(&self, at: usize, mask: u8, seen: u8) -> (usize, usize) {
-        if self.frame.get(at).is_some_and(|b| b & mask == seen) { (at, 1) } else { ASTRAY }
+        if self.frame.get(at).is_some_and(|b| b & mask == seen) {
+            (at, 1)
+        } else {
+            ASTRAY
+        }
     }
 
     fn identifier(&self, at: usize, seen: u16) -> (usize, usize) {
-        if self.frame.get(at..at + 2) == Some(&seen.to_be_bytes()[..]) { (at, 2) } else { ASTRAY }
+        if self.frame.get(at..at + 2) == Some(&seen.to_be_bytes()[..]) {
+            (at, 2)
+        } else {
+            ASTRAY
+        }
     }
 
     fn note(&mut self, number: u8, places: Vec<(usize, usize)>) -> Result<Vec<u8>, u8> {
@@ -73,7 +81,9 @@ impl Hooks {
     ) -> Result<usize, Code> {
         let mut desk = self.0.borrow_mut();
         let places = places(&desk);
-        desk.note(number, places).map(|bytes| give(&bytes, buf)).map_err(Code)
+        desk.note(number, places)
+            .map(|bytes| give(&bytes, buf))
+            .map_err(Code)
     }
 }
 
@@ -81,15 +91,22 @@ impl ServerHandler for Hooks {
     type Error = Code;
 
     fn read_did(&self, did: u16, buf: &mut [u8]) -> Result<usize, Code> {
-        self.0.borrow().values.read(did).map(|bytes| give(bytes, buf)).map_err(Code)
+        self.0
+            .borrow()
+            .values
+            .read(did)
+            .map(|bytes| give(bytes, buf))
+            .map_err(Code)
     }
 
     fn write_did(&mut self, did: u16, data: &[u8]) -> Result<(), Code> {
-        self.act(0x2E, |d| vec![d.identifier(1, did), d.part(data)], &mut []).map(|_| ())
+        self.act(0x2E, |d| vec![d.identifier(1, did), d.part(data)], &mut [])
+            .map(|_| ())
     }
 
     fn ecu_reset(&mut self, kind: u8) -> Result<(), Code> {
-        self.act(0x11, |d| vec![d.byte(1, 0x7F, kind)], &mut []).map(|_| ())
+        self.act(0x11, |d| vec![d.byte(1, 0x7F, kind)], &mut [])
+            .map(|_| ())
     }
 
     fn routine_control(
@@ -99,13 +116,16 @@ impl ServerHandler for Hooks {
         data: &[u8],
         buf: &mut [u8],
     ) -> Result<usize, Code> {
-        let places =
-            |d: &Desk| vec![d.byte(1, 0x7F, sub), d.identifier(2, id), d.part(data)];
+        let places = |d: &Desk| vec![d.byte(1, 0x7F, sub), d.identifier(2, id), d.part(data)];
         self.act(0x31, places, buf)
     }
 
     fn communication_control(&mut self, control: u8, comm: u8) -> Result<usize, Code> {
-        self.act(0x28, |d| vec![d.byte(1, 0x7F, control), d.byte(2, 0xFF, comm)], &mut [])
+        self.act(
+            0x28,
+            |d| vec![d.byte(1, 0x7F, control), d.byte(2, 0xFF, comm)],
+            &mut [],
+        )
     }
 
     fn request_download(
@@ -117,8 +137,18 @@ impl ServerHandler for Hooks {
         buf: &mut [u8],
     ) -> Result<usize, Code> {
         // The whole format byte is one argument; the server hands 0 for the other half.
-        let format = |d: &Desk| if encrypting == 0 { d.byte(1, 0xFF, format) } else { ASTRAY };
-        self.act(0x34, |d| vec![format(d), d.part(address), d.part(size)], buf)
+        let format = |d: &Desk| {
+            if encrypting == 0 {
+                d.byte(1, 0xFF, format)
+            } else {
+                ASTRAY
+            }
+        };
+        self.act(
+            0x34,
+            |d| vec![format(d), d.part(address), d.part(size)],
+            buf,
+        )
     }
 
     fn io_control(
@@ -128,8 +158,13 @@ impl ServerHandler for Hooks {
         state: &[u8],
         buf: &mut [u8],
     ) -> Result<usize, Code> {
-        let places =
-            |d: &Desk| vec![d.identifier(1, did), d.byte(3, 0xFF, parameter), d.part(state)];
+        let places = |d: &Desk| {
+            vec![
+                d.identifier(1, did),
+                d.byte(3, 0xFF, parameter),
+                d.part(state),
+            ]
+        };
         self.act(0x2F, places, buf)
     }
 
@@ -147,19 +182,28 @@ impl ServerHandler for Hooks {
         path: &[u8],
         buf: &mut [u8],
     ) -> Result<usize, Code> {
-        self.act(0x38, |d| vec![d.byte(1, 0xFF, operation), d.part(path)], buf)
+        self.act(
+            0x38,
+            |d| vec![d.byte(1, 0xFF, operation), d.part(path)],
+            buf,
+        )
     }
 }
 
 impl SecurityProvider for Hooks {
     fn generate_seed(&mut self, level: u8, buf: &mut [u8]) -> Result<usize, SecurityError> {
         let places = |d: &Desk| vec![d.byte(1, 0x7F, level)];
-        self.act(0x27, places, buf).map_err(|_| SecurityError::DelayNotExpired)
+        self.act(0x27, places, buf)
+            .map_err(|_| SecurityError::DelayNotExpired)
     }
 
     fn validate_key(&self, level: u8, seed: &[u8], key: &[u8]) -> Result<(), SecurityError> {
         let kind = |d: &Desk| {
-            if d.seed == seed { d.byte(1, 0x7F, level.wrapping_add(1)) } else { ASTRAY }
+            if d.seed == seed {
+                d.byte(1, 0x7F, level.wrapping_add(1))
+            } else {
+                ASTRAY
+            }
         };
         let asked = self.act(0x27, |d| vec![kind(d), d.part(key)], &mut []);
         asked.map(|_| ()).map_err(|_| SecurityError::InvalidKey)

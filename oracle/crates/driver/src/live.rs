@@ -17,7 +17,9 @@ pub struct Lists(HashMap<Vec<u8>, &'static [u8]>);
 
 impl Lists {
     fn keep(&mut self, list: &[u8]) -> &'static [u8] {
-        self.0.entry(list.to_vec()).or_insert_with(|| Vec::leak(list.to_vec()))
+        self.0
+            .entry(list.to_vec())
+            .or_insert_with(|| Vec::leak(list.to_vec()))
     }
 }
 
@@ -33,9 +35,19 @@ impl Live {
     pub fn new(config: &Config, lists: &mut Lists) -> Self {
         let hooks = Hooks::default();
         let address = NodeAddress(u32::from(config.physical));
-        let meter = UdsServer::new(published(config, lists), hooks.clone(), hooks.clone(), address);
+        let meter = UdsServer::new(
+            published(config, lists),
+            hooks.clone(),
+            hooks.clone(),
+            address,
+        );
         let state = plain(&access::snapshot(&meter));
-        Self { meter, hooks, config: config.clone(), state }
+        Self {
+            meter,
+            hooks,
+            config: config.clone(),
+            state,
+        }
     }
 
     /// A server in the state handed in.
@@ -43,7 +55,10 @@ impl Live {
         let mut live = Self::new(&server.config, lists);
         access::restore(&mut live.meter, &snapshot(&server.state));
         live.state = plain(&access::snapshot(&live.meter));
-        assert_eq!(live.state, server.state, "a state is held as it was handed in");
+        assert_eq!(
+            live.state, server.state,
+            "a state is held as it was handed in"
+        );
         live
     }
 
@@ -75,7 +90,11 @@ fn published(c: &Config, lists: &mut Lists) -> MeterConfig {
         });
     }
     for s in &c.services {
-        built = built.with_service(ServiceConfig::secured(s.sid, lists.keep(&s.sessions), s.level));
+        built = built.with_service(ServiceConfig::secured(
+            s.sid,
+            lists.keep(&s.sessions),
+            s.level,
+        ));
     }
     for i in &c.identifiers {
         built = built.with_did(DidConfig {
@@ -105,7 +124,10 @@ fn snapshot(s: &State) -> Snapshot {
         level: s.level,
         last_rx: s.last_rx * 1000,
         functional: s.functional,
-        pending: s.pending.as_ref().map(|p| (p.dst, p.sid, p.deadline * 1000)),
+        pending: s
+            .pending
+            .as_ref()
+            .map(|p| (p.dst, p.sid, p.deadline * 1000)),
         seed: s.seed.clone(),
         seed_level: s.seed_level,
         counts: s.counts.clone(),
@@ -121,7 +143,11 @@ fn snapshot(s: &State) -> Snapshot {
 
 /// Every moment in the server comes from whole milliseconds; a part of one would be a difference to see.
 fn whole(us: u64) -> u64 {
-    assert_eq!(us % 1000, 0, "{us} microseconds are no whole number of milliseconds");
+    assert_eq!(
+        us % 1000,
+        0,
+        "{us} microseconds are no whole number of milliseconds"
+    );
     us / 1000
 }
 
@@ -137,7 +163,11 @@ fn plain(s: &Snapshot) -> State {
         level: s.level,
         last_rx: whole(s.last_rx),
         functional: s.functional,
-        pending: s.pending.map(|(dst, sid, t)| Pending { dst, sid, deadline: whole(t) }),
+        pending: s.pending.map(|(dst, sid, t)| Pending {
+            dst,
+            sid,
+            deadline: whole(t),
+        }),
         seed_level: s.seed_level,
         seed: s.seed.clone(),
         counts: s.counts.clone(),

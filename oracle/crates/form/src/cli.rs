@@ -20,9 +20,14 @@ pub fn run(engine: &mut dyn Engine, form: Option<&str>) -> Result<(), String> {
         }
         _ => return Err("name the form of standard input: script or trace".to_string()),
     }
-    std::io::stdout().write_all(out.as_bytes()).map_err(|e| e.to_string())
+    std::io::stdout()
+        .write_all(out.as_bytes())
+        .map_err(|e| e.to_string())
 }
 
 fn read(input: &mut Vec<u8>) -> Result<(), String> {
-    std::io::stdin().read_to_end(input).map(|_| ()).map_err(|e| e.to_string())
+    std::io::stdin()
+        .read_to_end(input)
+        .map(|_| ())
+        .map_err(|e| e.to_string())
 }

@@ -24,31 +24,65 @@ pub fn config_fault(c: &Config) -> Option<&'static str> {
         ("services", c.services.len() > MAX_SERVICES),
         ("identifiers", c.identifiers.len() > MAX_IDENTIFIERS),
         ("levels", c.levels.len() > MAX_LEVELS),
-        ("span", c.sessions.iter().any(|s| span(s.p2) || span(s.p2_star) || span(s.s3))),
+        (
+            "span",
+            c.sessions
+                .iter()
+                .any(|s| span(s.p2) || span(s.p2_star) || span(s.s3)),
+        ),
         ("span", c.identifiers.iter().any(|i| span(i.minimum))),
         ("span", c.levels.iter().any(|l| span(l.lockout))),
         ("list", c.services.iter().any(|s| list(&s.sessions))),
-        ("list", c.identifiers.iter().any(|i| list(&i.readable) || list(&i.writable))),
-        ("seed or key", c.levels.iter().any(|l| l.seed > 32 || l.key > 32)),
+        (
+            "list",
+            c.identifiers
+                .iter()
+                .any(|i| list(&i.readable) || list(&i.writable)),
+        ),
+        (
+            "seed or key",
+            c.levels.iter().any(|l| l.seed > 32 || l.key > 32),
+        ),
     ];
-    checks.iter().find(|(_, broken)| *broken).map(|(name, _)| *name)
+    checks
+        .iter()
+        .find(|(_, broken)| *broken)
+        .map(|(name, _)| *name)
 }
 
 /// Which rule a state breaks, its configuration apart.
 pub fn state_fault(s: &State) -> Option<&'static str> {
     let late = |t: u64| t > MAX_TIME + MAX_SPAN;
     let checks = [
-        ("count", s.queue.len() > MAX_QUEUE || s.periodic.len() > MAX_PERIODIC),
-        ("count", s.counts.len() > MAX_LEVELS || s.locks.len() > MAX_LEVELS),
-        ("length", s.seed.len() > MAX_SEED || s.queue.iter().any(|(_, f)| f.len() > MAX_FRAME)),
+        (
+            "count",
+            s.queue.len() > MAX_QUEUE || s.periodic.len() > MAX_PERIODIC,
+        ),
+        (
+            "count",
+            s.counts.len() > MAX_LEVELS || s.locks.len() > MAX_LEVELS,
+        ),
+        (
+            "length",
+            s.seed.len() > MAX_SEED || s.queue.iter().any(|(_, f)| f.len() > MAX_FRAME),
+        ),
         ("empty frame", s.queue.iter().any(|(_, f)| f.is_empty())),
         ("last_rx", late(s.last_rx)),
-        ("deadline", s.pending.as_ref().is_some_and(|p| late(p.deadline))),
+        (
+            "deadline",
+            s.pending.as_ref().is_some_and(|p| late(p.deadline)),
+        ),
         ("lock", s.locks.iter().any(|(_, t)| late(*t))),
         ("next", s.periodic.iter().any(|e| late(e.next))),
-        ("interval", s.periodic.iter().any(|e| e.interval >= MAX_SPAN)),
+        (
+            "interval",
+            s.periodic.iter().any(|e| e.interval >= MAX_SPAN),
+        ),
     ];
-    checks.iter().find(|(_, broken)| *broken).map(|(name, _)| *name)
+    checks
+        .iter()
+        .find(|(_, broken)| *broken)
+        .map(|(name, _)| *name)
 }
 
 pub fn valid(s: &Server) -> bool {

@@ -11,7 +11,12 @@ pub enum Line {
     Level(LevelRow),
     Fresh,
     Hold,
-    State { session: u8, level: u8, last_rx: u64, functional: bool },
+    State {
+        session: u8,
+        level: u8,
+        last_rx: u64,
+        functional: bool,
+    },
     Pending(Pending),
     Seed(u8, Vec<u8>),
     Count(u8, u8),
@@ -26,7 +31,10 @@ pub enum Line {
     Tick(u64),
     Complete(u64, Vec<u8>),
     Fail(u64, u8),
-    Drain { length: usize, fill: u8 },
+    Drain {
+        length: usize,
+        fill: u8,
+    },
 }
 
 /// The words of a line after the first, taken one by one.
@@ -36,8 +44,14 @@ impl Words<'_> {
     /// A decimal number with no sign, no leading zero and within its type.
     fn number<T: TryFrom<u64>>(&mut self) -> Option<T> {
         let word = self.0.next()?;
-        let plain = word.bytes().all(|b| b.is_ascii_digit()) && (word == "0" || !word.starts_with('0'));
-        T::try_from(if plain { word.parse().ok()? } else { return None }).ok()
+        let plain =
+            word.bytes().all(|b| b.is_ascii_digit()) && (word == "0" || !word.starts_with('0'));
+        T::try_from(if plain {
+            word.parse().ok()?
+        } else {
+            return None;
+        })
+        .ok()
     }
 
     fn flag(&mut self) -> Option<bool> {
@@ -67,24 +81,23 @@ pub fn unhex(word: &str) -> Option<Vec<u8>> {
     if pairs.is_empty() || !rest.is_empty() {
         return None;
     }
-    pairs.iter().map(|[h, l]| Some(digit(*h)? << 4 | digit(*l)?)).collect()
+    pairs
+        .iter()
+        .map(|[h, l]| Some(digit(*h)? << 4 | digit(*l)?))
+        .collect()
 }
 
 pub fn parse(line: &str) -> Option<Line> {
-    let mut words = Words(line.split(' '));
-    let name = words.0.next()?;
-    let parsed = row(name, &mut words).or_else(|| {
-        let mut again = Words(line.split(' '));
-        again.0.next();
-        let parsed = call(name, &mut again);
-        words = again;
-        parsed
-    })?;
-    words.0.next().is_none().then_some(parsed)
+    [config_row, state_row, call].iter().find_map(|read| {
+        let mut words = Words(line.split(' '));
+        let name = words.0.next()?;
+        let parsed = read(name, &mut words)?;
+        words.0.next().is_none().then_some(parsed)
+    })
 }
 
-/// Rows of the configuration, of a handed-in state and of the value table.
-fn row(name: &str, w: &mut Words) -> Option<Line> {
+/// Rows of the configuration.
+fn config_row(name: &str, w: &mut Words) -> Option<Line> {
     Some(match name {
         "config" => Line::Config(w.number()?, w.number()?),
         "session" => Line::Session(SessionRow {
@@ -93,9 +106,11 @@ fn row(name: &str, w: &mut Words) -> Option<Line> {
             p2_star: w.number()?,
             s3: w.number()?,
         }),
-        "service" => {
-            Line::Service(ServiceRow { sid: w.number()?, level: w.number()?, sessions: w.bytes()? })
-        }
+        "service" => Line::Service(ServiceRow {
+            sid: w.number()?,
+            level: w.number()?,
+            sessions: w.bytes()?,
+        }),
         "identifier" => Line::Identifier(identifier(w)?),
         "level" => Line::Level(LevelRow {
             level: w.number()?,
@@ -104,15 +119,24 @@ fn row(name: &str, w: &mut Words) -> Option<Line> {
             seed: w.number()?,
             key: w.number()?,
         }),
+        _ => return None,
+    })
+}
+
+/// Parts of a handed-in state and of the value table.
+fn state_row(name: &str, w: &mut Words) -> Option<Line> {
+    Some(match name {
         "state" => Line::State {
             session: w.number()?,
             level: w.number()?,
             last_rx: w.number()?,
             functional: w.flag()?,
         },
-        "pending" => {
-            Line::Pending(Pending { dst: w.number()?, sid: w.number()?, deadline: w.number()? })
-        }
+        "pending" => Line::Pending(Pending {
+            dst: w.number()?,
+            sid: w.number()?,
+            deadline: w.number()?,
+        }),
         "seed" => Line::Seed(w.number()?, w.bytes()?),
         "count" => Line::Count(w.number()?, w.number()?),
         "lock" => Line::Lock(w.number()?, w.number()?),
@@ -168,14 +192,21 @@ fn call(name: &str, w: &mut Words) -> Option<Line> {
         "fresh" => Line::Fresh,
         "hold" => Line::Hold,
         "values" => Line::Values,
-        "request" => {
-            Line::Request(request(w)?, Outcome { error: w.number()?, bytes: w.bytes()? })
-        }
+        "request" => Line::Request(
+            request(w)?,
+            Outcome {
+                error: w.number()?,
+                bytes: w.bytes()?,
+            },
+        ),
         "question" => Line::Question(request(w)?),
         "tick" => Line::Tick(w.number()?),
         "complete" => Line::Complete(w.number()?, w.bytes()?),
         "fail" => Line::Fail(w.number()?, w.number()?),
-        "drain" => Line::Drain { length: usize::from(w.number::<u16>()?), fill: w.number()? },
+        "drain" => Line::Drain {
+            length: usize::from(w.number::<u16>()?),
+            fill: w.number()?,
+        },
         _ => return None,
     })
 }
@@ -188,9 +219,28 @@ mod tests {
     fn only_the_form_is_read() {
         assert_eq!(parse("tick 7"), Some(Line::Tick(7)));
         for bad in [
-            "", "tick", "tick ", "tick 07", "tick +7", "tick -7", "tick 7 ", "tick  7", " tick 7", "tick 7 8",
-            "tick 18446744073709551616", "fail 0 256", "pool 0", "pool 0a", "pool ", "pool", "Tick 7", "ticks 7",
-            "state 1 0 0 2", "row 1 0 4294967296 0", "fresh 1", "tick 7\r",
+            "",
+            "tick",
+            "tick ",
+            "tick 07",
+            "tick +7",
+            "tick -7",
+            "tick 7 ",
+            "tick  7",
+            " tick 7",
+            "tick 7 8",
+            "tick 18446744073709551616",
+            "fail 0 256",
+            "pool 0",
+            "pool 0a",
+            "pool ",
+            "pool",
+            "Tick 7",
+            "ticks 7",
+            "state 1 0 0 2",
+            "row 1 0 4294967296 0",
+            "fresh 1",
+            "tick 7\r",
         ] {
             assert_eq!(parse(bad), None, "{bad:?}");
         }

@@ -17,7 +17,11 @@ pub struct Player {
 impl Default for Player {
     fn default() -> Self {
         let rows = Config::default();
-        Self { server: Server::fresh(rows.clone()), rows, values: Values::default() }
+        Self {
+            server: Server::fresh(rows.clone()),
+            rows,
+            values: Values::default(),
+        }
     }
 }
 
@@ -25,7 +29,10 @@ impl Default for Player {
 pub fn script(engine: &mut dyn Engine, text: &str, out: &mut String) {
     let mut player = Player::default();
     for line in text.strip_suffix('\n').unwrap_or(text).split('\n') {
-        if parse(line).and_then(|l| player.step(engine, &l, out)).is_none() {
+        if parse(line)
+            .and_then(|l| player.step(engine, &l, out))
+            .is_none()
+        {
             out.push_str("bad\n");
             return;
         }
@@ -60,7 +67,10 @@ impl Player {
     /// A fresh state over the rows as they stand, tested by no number but how many rows there are.
     fn hold(&mut self) -> Option<()> {
         let fault = numbers::config_fault(&self.rows);
-        if matches!(fault, Some("sessions" | "services" | "identifiers" | "levels")) {
+        if matches!(
+            fault,
+            Some("sessions" | "services" | "identifiers" | "levels")
+        ) {
             return None;
         }
         self.server = Server::fresh(self.rows.clone());
@@ -71,7 +81,12 @@ impl Player {
     fn hand_in(&mut self, line: &Line) -> bool {
         let s = &mut self.server.state;
         match line {
-            Line::State { session, level, last_rx, functional } => {
+            Line::State {
+                session,
+                level,
+                last_rx,
+                functional,
+            } => {
                 (s.session, s.level) = (*session, *level);
                 (s.last_rx, s.functional) = (*last_rx, *functional);
             }

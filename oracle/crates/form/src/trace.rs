@@ -11,8 +11,9 @@ pub const MAX_TRACE: usize = 65_536;
 /// Room for sixteen records of 264 bytes.
 const DRAIN: usize = 16 * 264;
 
-pub const FOURTEEN: [u8; 14] =
-    [0x10, 0x11, 0x22, 0x27, 0x28, 0x2A, 0x2E, 0x2F, 0x31, 0x34, 0x36, 0x37, 0x38, 0x3E];
+pub const FOURTEEN: [u8; 14] = [
+    0x10, 0x11, 0x22, 0x27, 0x28, 0x2A, 0x2E, 0x2F, 0x31, 0x34, 0x36, 0x37, 0x38, 0x3E,
+];
 
 #[derive(Debug, Clone, PartialEq, Eq)]
 pub enum Record {
@@ -24,8 +25,17 @@ pub enum Record {
 
 pub fn fixed_config() -> Config {
     let both = || vec![1, 3];
-    let session = |kind| SessionRow { kind, p2: 50, p2_star: 5000, s3: 5000 };
-    let service = |sid: &u8| ServiceRow { sid: *sid, level: 0, sessions: both() };
+    let session = |kind| SessionRow {
+        kind,
+        p2: 50,
+        p2_star: 5000,
+        s3: 5000,
+    };
+    let service = |sid: &u8| ServiceRow {
+        sid: *sid,
+        level: 0,
+        sessions: both(),
+    };
     let identifier = |id, level| IdentifierRow {
         id,
         level,
@@ -40,7 +50,13 @@ pub fn fixed_config() -> Config {
         sessions: vec![session(1), session(3)],
         services: FOURTEEN.iter().map(service).collect(),
         identifiers: vec![identifier(0xF190, 3), identifier(0xF201, 0)],
-        levels: vec![LevelRow { level: 3, attempts: 3, lockout: 10_000, seed: 4, key: 4 }],
+        levels: vec![LevelRow {
+            level: 3,
+            attempts: 3,
+            lockout: 10_000,
+            seed: 4,
+            key: 4,
+        }],
     }
 }
 
@@ -59,7 +75,10 @@ pub fn next(input: &[u8]) -> Option<(Record, &[u8])> {
             frame: body[16..].to_vec(),
         }),
         2 if length == 8 => Record::Tick(u64_at(0)?),
-        3 if length >= 1 => Record::Outcome(Outcome { error: body[0], bytes: body[1..].to_vec() }),
+        3 if length >= 1 => Record::Outcome(Outcome {
+            error: body[0],
+            bytes: body[1..].to_vec(),
+        }),
         4 if length >= 3 => Record::Value {
             id: u16::from_le_bytes([body[0], body[1]]),
             error: body[2],
@@ -74,7 +93,11 @@ pub fn next(input: &[u8]) -> Option<(Record, &[u8])> {
 pub fn bytes(record: &Record) -> Vec<u8> {
     let (kind, body): (u16, Vec<u8>) = match record {
         Record::Request(r) => {
-            let (time, src, dst) = (r.time.to_le_bytes(), r.src.to_le_bytes(), r.dst.to_le_bytes());
+            let (time, src, dst) = (
+                r.time.to_le_bytes(),
+                r.src.to_le_bytes(),
+                r.dst.to_le_bytes(),
+            );
             (1, [&time[..], &src, &dst, &r.frame].concat())
         }
         Record::Tick(time) => (2, time.to_le_bytes().to_vec()),
@@ -99,14 +122,23 @@ impl Run {
         let (result, server) = engine.fresh(&fixed_config());
         assert_eq!(result, 0, "the fixed configuration keeps the numbers");
         let empty = |id| (id, 0, Vec::new());
-        Self { server, outcome: None, values: vec![empty(0xF190), empty(0xF201)] }
+        Self {
+            server,
+            outcome: None,
+            values: vec![empty(0xF190), empty(0xF201)],
+        }
     }
 
     fn table(&self) -> Values {
         let mut table = Values::default();
         for (id, error, bytes) in &self.values {
             let (start, length) = (table.pool.len() as u64, bytes.len() as u64);
-            table.rows.push(ValueRow { id: *id, error: *error, start, length });
+            table.rows.push(ValueRow {
+                id: *id,
+                error: *error,
+                start,
+                length,
+            });
             table.pool.extend_from_slice(bytes);
         }
         table
@@ -126,7 +158,10 @@ impl Run {
                 return;
             }
             Record::Request(r) => {
-                let missing = Outcome { error: 0x22, bytes: Vec::new() };
+                let missing = Outcome {
+                    error: 0x22,
+                    bytes: Vec::new(),
+                };
                 let outcome = self.outcome.take().unwrap_or(missing);
                 (1, engine.request(&mut self.server, &table, r, &outcome))
             }

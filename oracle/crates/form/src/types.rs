@@ -100,7 +100,10 @@ pub struct Server {
 
 impl Server {
     pub fn fresh(config: Config) -> Self {
-        Self { config, state: State::fresh() }
+        Self {
+            config,
+            state: State::fresh(),
+        }
     }
 }
 
@@ -177,7 +180,10 @@ pub struct Answer {
 
 impl Answer {
     pub fn of(result: u8) -> Self {
-        Self { result, ..Self::default() }
+        Self {
+            result,
+            ..Self::default()
+        }
     }
 }
 

@@ -44,7 +44,14 @@ impl<'a> Case<'a> {
         o: &'a Outcome,
         hits: &'a mut Hits,
     ) -> Self {
-        Self { s, v, r, o, hits, act: Act::default() }
+        Self {
+            s,
+            v,
+            r,
+            o,
+            hits,
+            act: Act::default(),
+        }
     }
 
     pub fn hit(&mut self, name: &str) {
@@ -55,6 +62,10 @@ impl<'a> Case<'a> {
     pub fn mark(&mut self, name: &str) {
         let sid = self.sid();
         self.hits.hit(&format!("{sid:02X} {name}"));
+    }
+
+    pub fn mark_either(&mut self, first: bool, one: &str, other: &str) {
+        self.mark(if first { one } else { other });
     }
 
     pub fn sid(&self) -> u8 {
@@ -68,7 +79,7 @@ impl<'a> Case<'a> {
     /// Bit 7 of the first payload byte.
     pub fn suppressed(&mut self) -> bool {
         let set = self.payload().first().is_some_and(|b| b & 0x80 != 0);
-        self.mark(if set { "suppress bit set" } else { "suppress bit clear" });
+        self.mark_either(set, "suppress bit set", "suppress bit clear");
         set
     }
 
@@ -81,7 +92,8 @@ impl<'a> Case<'a> {
             return 0;
         }
         let back = self.r.time < self.s.state.last_rx;
-        self.hit(if functional { "address: functional" } else { "address: physical" });
+        self.hits
+            .either(functional, "address: functional", "address: physical");
         if !functional && c_same(self.s) {
             self.hit("address: both are one, so physical");
         }
@@ -95,7 +107,8 @@ impl<'a> Case<'a> {
         }
         let length = self.r.frame.len();
         if length == 0 || length > MAX_INBOUND {
-            self.hit(if length == 0 { "result 2: empty" } else { "result 2: above 4095" });
+            self.hits
+                .either(length == 0, "result 2: empty", "result 2: above 4095");
             return 2;
         }
         if length == MAX_INBOUND {
@@ -133,7 +146,8 @@ impl<'a> Case<'a> {
         let known = FOURTEEN.contains(&sid);
         match allowed {
             None => {
-                self.hit(if known { "service: no row" } else { "service: unknown byte" });
+                self.hits
+                    .either(known, "service: no row", "service: unknown byte");
                 self.negative(0x11)
             }
             Some(false) => {
@@ -145,7 +159,11 @@ impl<'a> Case<'a> {
                 self.negative(0x11)
             }
             Some(true) => {
-                let mode = if self.s.state.functional { "functional" } else { "physical" };
+                let mode = if self.s.state.functional {
+                    "functional"
+                } else {
+                    "physical"
+                };
                 self.mark(mode);
                 self.rule()
             }
@@ -175,7 +193,7 @@ impl<'a> Case<'a> {
     pub fn positive(&mut self, payload: &[u8]) -> u8 {
         let length = payload.len() + 1;
         if length >= MAX_FRAME {
-            self.mark(if length == MAX_FRAME { "reply of 256" } else { "reply above 256" });
+            self.mark_either(length == MAX_FRAME, "reply of 256", "reply above 256");
         }
         if length > MAX_FRAME {
             return self.negative(0x14);
@@ -237,13 +255,23 @@ impl<'a> Case<'a> {
     /// Asks the act of this service and gives its outcome.
     pub fn ask(&mut self, places: &[(usize, usize)]) -> Result<&'a [u8], u8> {
         let number = self.sid();
-        let whole = |(start, length): &(usize, usize)| if *length == 0 { (0, 0) } else { (*start, *length) };
-        self.act = Act { number, places: places.iter().map(whole).collect() };
+        let whole = |(start, length): &(usize, usize)| {
+            if *length == 0 {
+                (0, 0)
+            } else {
+                (*start, *length)
+            }
+        };
+        self.act = Act {
+            number,
+            places: places.iter().map(whole).collect(),
+        };
         self.mark("act");
         let (outcome, limit) = (self.o, if number == 0x34 { 64 } else { 256 });
         let long = outcome.bytes.len() > limit;
         if outcome.error != 0 {
-            self.hit(if long { "outcome: error and too many bytes" } else { "outcome: error" });
+            self.hits
+                .either(long, "outcome: error and too many bytes", "outcome: error");
             return Err(outcome.error);
         }
         if long {

@@ -18,7 +18,15 @@ impl Case<'_> {
             self.mark("no row");
             return Err(0x31);
         };
-        if self.s.config.identifiers.iter().filter(|r| r.id == id).count() > 1 {
+        if self
+            .s
+            .config
+            .identifiers
+            .iter()
+            .filter(|r| r.id == id)
+            .count()
+            > 1
+        {
             self.mark("first of two rows");
         }
         if !list(&row).contains(&session) {
@@ -30,7 +38,7 @@ impl Case<'_> {
             return Err(0x33);
         }
         if row.level > 0 {
-            self.mark(if held == row.level { "level held" } else { "higher level held" });
+            self.mark_either(held == row.level, "level held", "higher level held");
         }
         Ok(())
     }
@@ -38,7 +46,7 @@ impl Case<'_> {
     pub fn read(&mut self) -> u8 {
         let p = self.payload();
         if p.len() < 2 || p.len() % 2 != 0 {
-            self.mark(if p.len() < 2 { "less than two" } else { "odd" });
+            self.mark_either(p.len() < 2, "less than two", "odd");
             return self.short();
         }
         let mut reply = Vec::new();
@@ -109,10 +117,18 @@ pub fn note_value(hits: &mut crate::Hits, v: &form::Values, id: u16) {
     }
     let (end, pool) = (row.start + row.length, v.pool.len() as u64);
     if row.length > 256 {
-        hits.hit(if row.error == 0 { "value: above 256" } else { "value: above 256 with an error" });
+        hits.either(
+            row.error == 0,
+            "value: above 256",
+            "value: above 256 with an error",
+        );
     } else if end > pool {
         let past = row.length == 0;
-        hits.hit(if row.error != 0 { "value: outside with an error" } else { "value: outside the pool" });
+        hits.either(
+            row.error != 0,
+            "value: outside with an error",
+            "value: outside the pool",
+        );
         if past {
             hits.hit("value: empty past the pool's end");
         }

@@ -1,11 +1,13 @@
 //! The services that hand one act on and answer with its bytes, and the session services.
 
+use form::SessionRow;
+
 use crate::case::{Case, session};
 
 impl Case<'_> {
     pub fn tester_present(&mut self) -> u8 {
         let first = self.payload().first().copied();
-        self.mark(if first.is_some() { "sub-function" } else { "absent" });
+        self.mark_either(first.is_some(), "sub-function", "absent");
         if self.suppressed() {
             return 0;
         }
@@ -21,7 +23,8 @@ impl Case<'_> {
             self.mark("unknown session");
             return self.negative(0x12);
         };
-        if self.s.config.sessions.iter().filter(|r| r.kind == kind).count() > 1 {
+        let same = |row: &&SessionRow| row.kind == kind;
+        if self.s.config.sessions.iter().filter(same).count() > 1 {
             self.mark("first of two rows");
         }
         self.s.state.session = kind;
@@ -29,6 +32,11 @@ impl Case<'_> {
         if self.suppressed() {
             return 0;
         }
+        self.session_reply(&row)
+    }
+
+    /// The session, P2 and a tenth of P2*, the low 16 bits of each.
+    fn session_reply(&mut self, row: &SessionRow) -> u8 {
         let (p2, star) = (row.p2, row.p2_star / 10);
         if p2 > 0xFFFF {
             self.mark("P2 above 16 bits");
@@ -36,7 +44,8 @@ impl Case<'_> {
         if star > 0xFFFF {
             self.mark("P2* above 16 bits");
         }
-        self.positive(&[kind, (p2 >> 8) as u8, p2 as u8, (star >> 8) as u8, star as u8])
+        let (p2, star) = (p2 as u16, star as u16);
+        self.positive(&[&[row.kind][..], &p2.to_be_bytes(), &star.to_be_bytes()].concat())
     }
 
     /// Level 0 and no seed.

@@ -47,10 +47,19 @@ impl Rules {
         let limits = [
             ("8 sessions", c.sessions.len() == numbers::MAX_SESSIONS),
             ("24 services", c.services.len() == numbers::MAX_SERVICES),
-            ("128 identifiers", c.identifiers.len() == numbers::MAX_IDENTIFIERS),
+            (
+                "128 identifiers",
+                c.identifiers.len() == numbers::MAX_IDENTIFIERS,
+            ),
             ("8 levels", c.levels.len() == numbers::MAX_LEVELS),
-            ("list of 8", c.services.iter().any(|s| s.sessions.len() == 8)),
-            ("span 2^32 - 1", c.sessions.iter().any(|s| s.s3 == numbers::MAX_SPAN - 1)),
+            (
+                "list of 8",
+                c.services.iter().any(|s| s.sessions.len() == 8),
+            ),
+            (
+                "span 2^32 - 1",
+                c.sessions.iter().any(|s| s.s3 == numbers::MAX_SPAN - 1),
+            ),
             ("seed of 32", c.levels.iter().any(|l| l.seed == 32)),
             ("key of 32", c.levels.iter().any(|l| l.key == 32)),
             ("no row at all", *c == Config::default()),
@@ -62,7 +71,9 @@ impl Rules {
 }
 
 fn fault(s: &Server) -> Option<&'static str> {
-    numbers::config_fault(&s.config).map(|_| "configuration").or(numbers::state_fault(&s.state))
+    numbers::config_fault(&s.config)
+        .map(|_| "configuration")
+        .or(numbers::state_fault(&s.state))
 }
 
 impl Engine for Rules {
@@ -81,14 +92,21 @@ impl Engine for Rules {
         }
         let mut case = Case::new(s, v, r, o, &mut self.hits);
         let result = case.request();
-        Answer { result, error: 0, act: case.act }
+        Answer {
+            result,
+            error: 0,
+            act: case.act,
+        }
     }
 
     fn question(&mut self, s: &Server, v: &Values, r: &Request) -> Answer {
         if let Some(result) = self.refused("question", s, r.time) {
             return Answer::of(result);
         }
-        let outcome = Outcome { error: 0x22, bytes: Vec::new() };
+        let outcome = Outcome {
+            error: 0x22,
+            bytes: Vec::new(),
+        };
         // Asked aside: the branches of a request are not counted for a question.
         let mut aside = Hits::default();
         let mut server = s.clone();
@@ -96,7 +114,11 @@ impl Engine for Rules {
         case.request();
         let act = case.act;
         self.hits.hit(&format!("question: act {:02X}", act.number));
-        Answer { result: 0, error: 0, act }
+        Answer {
+            result: 0,
+            error: 0,
+            act,
+        }
     }
 
     fn tick(&mut self, s: &mut Server, v: &Values, time: u64) -> Answer {

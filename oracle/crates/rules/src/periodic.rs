@@ -17,7 +17,7 @@ impl Case<'_> {
             3 => 50,
             4 => return self.cancel(&p[1..]),
             _ => {
-                self.mark(if mode & 0x80 == 0 { "other mode" } else { "mode with bit 7" });
+                self.mark_either(mode & 0x80 == 0, "other mode", "mode with bit 7");
                 return self.negative(0x12);
             }
         };
@@ -35,9 +35,12 @@ impl Case<'_> {
 
     fn register(&mut self, id: u16, rate: u64, nth: usize) -> Result<(), u8> {
         let session = self.s.state.session;
-        let row = self.identifier(id).filter(|row| row.readable.contains(&session)).cloned();
+        let row = self
+            .identifier(id)
+            .filter(|row| row.readable.contains(&session))
+            .cloned();
         let Some(row) = row else {
-            self.mark(if nth > 0 { "unreadable after a good one" } else { "unreadable" });
+            self.mark_either(nth > 0, "unreadable after a good one", "unreadable");
             return Err(self.negative(0x31));
         };
         if row.level > self.s.state.level {
@@ -46,20 +49,30 @@ impl Case<'_> {
         if row.minimum > rate {
             self.mark("minimum above the rate");
         }
-        let (client, interval) = (self.r.src, rate.max(row.minimum));
-        let next = self.r.time + interval;
+        self.subscribe(id, rate.max(row.minimum))
+    }
+
+    /// Renews the entry of the same identifier and client, else takes a free place.
+    fn subscribe(&mut self, id: u16, interval: u64) -> Result<(), u8> {
+        let (client, next) = (self.r.src, self.r.time + interval);
+        let functional = self.s.state.functional;
         let entries = &mut self.s.state.periodic;
-        if let Some(old) = entries.iter_mut().find(|e| e.id == id && e.client == client) {
+        let mut old = entries.iter_mut();
+        if let Some(old) = old.find(|e| e.id == id && e.client == client) {
             (old.interval, old.next) = (interval, next);
             self.mark("renewed");
             return Ok(());
         }
         if entries.len() == MAX_PERIODIC {
-            let functional = self.s.state.functional;
-            self.mark(if functional { "table full, functional" } else { "table full, physical" });
+            self.mark_either(functional, "table full, functional", "table full, physical");
             return Err(self.negative_always(0x31));
         }
-        entries.push(Entry { id, client, interval, next });
+        entries.push(Entry {
+            id,
+            client,
+            interval,
+            next,
+        });
         self.mark("registered");
         Ok(())
     }
@@ -74,7 +87,7 @@ impl Case<'_> {
             let before = entries.len();
             entries.retain(|e| !(e.id == id && e.client == client));
             let gone = before != entries.len();
-            self.mark(if gone { "cancelled" } else { "nothing to cancel" });
+            self.mark_either(gone, "cancelled", "nothing to cancel");
             if others {
                 self.mark("another client's stays");
             }

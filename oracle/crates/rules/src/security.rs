@@ -23,7 +23,13 @@ impl Case<'_> {
 
     /// now < until of the first lock for the level.
     fn locked(&mut self, level: u8) -> bool {
-        let until = self.s.state.locks.iter().find(|(l, _)| *l == level).map(|(_, t)| *t);
+        let until = self
+            .s
+            .state
+            .locks
+            .iter()
+            .find(|(l, _)| *l == level)
+            .map(|(_, t)| *t);
         let Some(until) = until else {
             return false;
         };
@@ -37,7 +43,12 @@ impl Case<'_> {
     }
 
     fn level_row(&self, level: u8) -> Option<LevelRow> {
-        self.s.config.levels.iter().find(|row| row.level == level).cloned()
+        self.s
+            .config
+            .levels
+            .iter()
+            .find(|row| row.level == level)
+            .cloned()
     }
 
     fn clear_seed(&mut self) {
@@ -55,11 +66,15 @@ impl Case<'_> {
         };
         let held = !self.s.state.seed.is_empty();
         let Ok(seed) = self.ask(&[(1, 1)]) else {
-            self.mark(if held { "provider error keeps the seed" } else { "provider error" });
+            self.mark_either(held, "provider error keeps the seed", "provider error");
             return self.negative(0x22);
         };
         if seed.len() as u64 != row.seed {
-            self.mark(if held { "wrong seed length clears the seed" } else { "wrong seed length" });
+            self.mark_either(
+                held,
+                "wrong seed length clears the seed",
+                "wrong seed length",
+            );
             self.clear_seed();
             return self.negative(0x22);
         }
@@ -87,13 +102,13 @@ impl Case<'_> {
         let s = &self.s.state;
         if s.seed_level != level || s.seed.is_empty() {
             let other = s.seed_level != level;
-            self.mark(if other { "level not pending" } else { "seed empty" });
+            self.mark_either(other, "level not pending", "seed empty");
             return self.negative(0x24);
         }
         let row = self.level_row(level);
         match &row {
             Some(row) if key as u64 != row.key => {
-                self.mark(if (key as u64) < row.key { "key too short" } else { "key too long" });
+                self.mark_either((key as u64) < row.key, "key too short", "key too long");
                 return self.negative(0x13);
             }
             Some(_) => self.mark("key of the right length"),
@@ -104,7 +119,7 @@ impl Case<'_> {
         }
         let counted = self.s.state.counts.iter_mut().find(|(l, _)| *l == level);
         let there = counted.map(|c| c.1 = 0).is_some();
-        self.mark(if there { "accepted, count to 0" } else { "accepted, no count" });
+        self.mark_either(there, "accepted, count to 0", "accepted, no count");
         self.s.state.level = level;
         self.clear_seed();
         self.positive(&[kind])
@@ -143,7 +158,7 @@ impl Case<'_> {
             let full = entry.1 == 255;
             entry.1 = entry.1.saturating_add(1);
             let count = entry.1;
-            self.mark(if full { "count stays at 255" } else { "count up" });
+            self.mark_either(full, "count stays at 255", "count up");
             return Some(count);
         }
         if counts.len() == MAX_LEVELS {

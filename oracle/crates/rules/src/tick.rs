@@ -39,9 +39,9 @@ fn expire(s: &mut Server, time: u64, hits: &mut Hits) {
     }
     let (passed, s3) = (time - s.state.last_rx, row.unwrap_or(5000));
     if passed <= s3 {
-        return hits.hit(if passed == s3 { "S3: at equality" } else { "S3: not yet" });
+        return hits.either(passed == s3, "S3: at equality", "S3: not yet");
     }
-    hits.hit(if passed == s3 + 1 { "S3: expired by one" } else { "S3: expired" });
+    hits.either(passed == s3 + 1, "S3: expired by one", "S3: expired");
     if !s.state.seed.is_empty() {
         hits.hit("S3: seed cleared");
     }
@@ -90,7 +90,11 @@ fn send_due(s: &mut Server, v: &Values, time: u64, hits: &mut Hits) -> Answer {
         note_value(hits, v, entry.id);
         let full = s.state.queue.len() == MAX_QUEUE;
         let ended = match v.read(entry.id) {
-            Err(error) => Answer { result: 8, error, ..Answer::default() },
+            Err(error) => Answer {
+                result: 8,
+                error,
+                ..Answer::default()
+            },
             Ok(value) if value.len() + 1 > MAX_FRAME => Answer::of(4),
             Ok(value) => {
                 if value.len() + 1 == MAX_FRAME {
@@ -172,7 +176,11 @@ pub fn fail(s: &mut Server, code: u8, hits: &mut Hits) -> u8 {
 pub fn drain(s: &mut Server, buffer: &mut [u8], hits: &mut Hits) -> (u8, usize) {
     let written = records(&s.state.queue);
     if written.len() > buffer.len() {
-        hits.hit(if written.len() == buffer.len() + 1 { "result 5: by one" } else { "result 5: drain" });
+        hits.either(
+            written.len() == buffer.len() + 1,
+            "result 5: by one",
+            "result 5: drain",
+        );
         return (5, 0);
     }
     let count = s.state.queue.len();
@@ -182,7 +190,11 @@ pub fn drain(s: &mut Server, buffer: &mut [u8], hits: &mut Hits) -> (u8, usize) 
         16 => "drain: sixteen",
         _ => "drain: several",
     });
-    hits.hit(if written.len() == buffer.len() { "drain: to the byte" } else { "drain: rest unchanged" });
+    hits.either(
+        written.len() == buffer.len(),
+        "drain: to the byte",
+        "drain: rest unchanged",
+    );
     buffer[..written.len()].copy_from_slice(&written);
     s.state.queue.clear();
     (0, count)

@@ -25,7 +25,11 @@ fn note_record(record: &Record, outcome: bool, hits: &mut Hits) -> bool {
     match record {
         Record::Request(r) => {
             hits.hit("trace: request");
-            hits.hit(if outcome { "trace: outcome used up by a request" } else { "trace: no outcome" });
+            hits.either(
+                outcome,
+                "trace: outcome used up by a request",
+                "trace: no outcome",
+            );
             if r.frame.is_empty() {
                 hits.hit("trace: request of no bytes");
             }
@@ -47,7 +51,7 @@ fn note_record(record: &Record, outcome: bool, hits: &mut Hits) -> bool {
         }
         Record::Value { id, bytes, .. } => {
             let known = [0xF190, 0xF201].contains(id);
-            hits.hit(if known { "trace: value" } else { "trace: value with no row" });
+            hits.either(known, "trace: value", "trace: value with no row");
             if known && bytes.len() > 256 {
                 hits.hit("trace: value above 256");
             }

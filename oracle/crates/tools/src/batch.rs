@@ -13,7 +13,9 @@ pub fn print_scripts(seed: u64, count: u64) -> Result<(), String> {
 }
 
 pub fn print_trace(seed: u64, number: u64) -> Result<(), String> {
-    std::io::stdout().write_all(&traces::trace(seed, number)).map_err(|e| e.to_string())
+    std::io::stdout()
+        .write_all(&traces::trace(seed, number))
+        .map_err(|e| e.to_string())
 }
 
 /// What a command and the name of a form print on an input. A command that fails has printed what it has
@@ -35,8 +37,12 @@ pub fn run(command: &str, form: &str, input: &[u8]) -> Result<String, String> {
         // A command that ends before it has read all is no error here; its output tells.
         let _ = stdin.write_all(&given);
     });
-    let output = child.wait_with_output().map_err(|e| format!("{command}: {e}"))?;
-    feeder.join().map_err(|_| "feeding a command failed".to_string())?;
+    let output = child
+        .wait_with_output()
+        .map_err(|e| format!("{command}: {e}"))?;
+    feeder
+        .join()
+        .map_err(|_| "feeding a command failed".to_string())?;
     let mut text = String::from_utf8_lossy(&output.stdout).into_owned();
     if !output.status.success() {
         text.push_str("(ended with a failure)\n");

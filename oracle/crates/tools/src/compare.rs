@@ -14,7 +14,9 @@ use crate::{scripts, traces};
 /// Scripts given to one run of a command; each begins afresh, so they can stand in one input.
 const BATCH: u64 = 200;
 
-const CALLS: [&str; 7] = ["fresh", "request", "question", "tick", "complete", "fail", "drain"];
+const CALLS: [&str; 7] = [
+    "fresh", "request", "question", "tick", "complete", "fail", "drain",
+];
 
 /// A shrunk input on which the two differ, as text to print.
 struct Difference {
@@ -32,10 +34,21 @@ fn calls(output: &str) -> u64 {
 }
 
 /// The calls of the batch, or the script in it on which the commands differ.
-fn batch(seed: u64, from: u64, to: u64, a: &str, b: &str) -> Result<Result<u64, Vec<String>>, String> {
-    let made: Vec<_> = (from..to).map(|n| scripts::text(&scripts::script(seed, n))).collect();
+fn batch(
+    seed: u64,
+    from: u64,
+    to: u64,
+    a: &str,
+    b: &str,
+) -> Result<Result<u64, Vec<String>>, String> {
+    let made: Vec<_> = (from..to)
+        .map(|n| scripts::text(&scripts::script(seed, n)))
+        .collect();
     let all = made.concat();
-    let (left, right) = (run(a, "script", all.as_bytes())?, run(b, "script", all.as_bytes())?);
+    let (left, right) = (
+        run(a, "script", all.as_bytes())?,
+        run(b, "script", all.as_bytes())?,
+    );
     if left == right {
         return Ok(Ok(calls(&left)));
     }
@@ -67,10 +80,17 @@ fn shrink_script(lines: Vec<String>, a: &str, b: &str) -> Result<Difference, Str
         well_formed(lines) && differ("script", text(lines).as_bytes(), a, b).unwrap_or(false)
     };
     let simpler = |line: &String| simpler_line(line);
-    let small = Shrinker { shows: &mut { shows }, simpler: &simpler }.shrink(lines);
+    let small = Shrinker {
+        shows: &mut { shows },
+        simpler: &simpler,
+    }
+    .shrink(lines);
     let input = text(&small);
     let first = first_difference("script", input.as_bytes(), a, b)?;
-    Ok(Difference { seen: format!("{input}{first}"), lines: small.len() })
+    Ok(Difference {
+        seen: format!("{input}{first}"),
+        lines: small.len(),
+    })
 }
 
 /// The first line in which two outputs part.
@@ -104,13 +124,22 @@ fn records(bytes: &[u8]) -> Vec<Vec<u8>> {
 }
 
 fn shrink_trace(bytes: &[u8], a: &str, b: &str) -> Result<Difference, String> {
-    let shows =
-        |records: &[Vec<u8>]| differ("trace", &records.concat(), a, b).unwrap_or(false);
+    let shows = |records: &[Vec<u8>]| differ("trace", &records.concat(), a, b).unwrap_or(false);
     let simpler = |record: &Vec<u8>| simpler_record(record);
-    let small = Shrinker { shows: &mut { shows }, simpler: &simpler }.shrink(records(bytes));
+    let small = Shrinker {
+        shows: &mut { shows },
+        simpler: &simpler,
+    }
+    .shrink(records(bytes));
     let first = first_difference("trace", &small.concat(), a, b)?;
-    let shown: String = small.iter().map(|record| print::hex(record) + "\n").collect();
-    Ok(Difference { seen: format!("{shown}{first}"), lines: small.len() })
+    let shown: String = small
+        .iter()
+        .map(|record| print::hex(record) + "\n")
+        .collect();
+    Ok(Difference {
+        seen: format!("{shown}{first}"),
+        lines: small.len(),
+    })
 }
 
 /// Counts of scripts and calls without a difference, or the difference, shrunk.
@@ -157,7 +186,10 @@ pub fn expect_difference(seed: u64, count: u64, a: &str, b: &str) -> Result<(), 
             let before = script.len();
             let found = shrink_script(script, a, b)?;
             let ms = start.elapsed().as_millis();
-            println!("found within {to} scripts, {before} lines shrunk to {} ({ms} ms)", found.lines);
+            println!(
+                "found within {to} scripts, {before} lines shrunk to {} ({ms} ms)",
+                found.lines
+            );
             println!("{}", found.seen);
             return Ok(());
         }
@@ -180,12 +212,14 @@ pub fn soak(seconds: u64, seed: u64, a: &str, b: &str) -> Result<(), String> {
     }
     let minutes = start.elapsed().as_secs_f64() / 60.0;
     let a_minute = |n: u64| (n as f64 / minutes) as u64;
+    let (all, last) = (rounds * BATCH, seed + rounds - 1);
+    let traces = rounds * 20;
     println!(
-        "seeds {seed} to {}: {} scripts, {script_calls} calls, {} traces, no difference; a minute: {} scripts, {} calls",
-        seed + rounds - 1,
-        rounds * BATCH,
-        rounds * 20,
-        a_minute(rounds * BATCH),
+        "seeds {seed} to {last}: {all} scripts, {script_calls} calls, {traces} traces, no difference"
+    );
+    println!(
+        "a minute: {} scripts, {} calls",
+        a_minute(all),
         a_minute(script_calls)
     );
     Ok(())

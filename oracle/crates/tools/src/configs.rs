@@ -5,8 +5,20 @@ use form::{Config, IdentifierRow, LevelRow, ServiceRow, SessionRow};
 
 use crate::rng::Rng;
 
-const SPANS: [u64; 12] =
-    [0, 1, 9, 10, 50, 500, 5000, 65_535, 65_536, 655_350, 655_360, (1 << 32) - 1];
+const SPANS: [u64; 12] = [
+    0,
+    1,
+    9,
+    10,
+    50,
+    500,
+    5000,
+    65_535,
+    65_536,
+    655_350,
+    655_360,
+    (1 << 32) - 1,
+];
 
 /// First bytes outside the fourteen: known and unknown to the published list, requests and responses.
 pub const OTHERS: [u8; 16] = [
@@ -18,7 +30,11 @@ pub fn config(rng: &mut Rng) -> Config {
         return Config::default();
     }
     let physical = rng.pick(&[0, 16, 16, 255, 0x7E0, 65_535]);
-    let functional = if rng.chance(6) { physical } else { rng.pick(&[2015, 2015, 1, 65_534]) };
+    let functional = if rng.chance(6) {
+        physical
+    } else {
+        rng.pick(&[2015, 2015, 1, 65_534])
+    };
     let sessions = sessions(rng);
     let mut kinds: Vec<u8> = sessions.iter().map(|s| s.kind).collect();
     if rng.chance(15) && kinds.len() < 8 {
@@ -41,9 +57,19 @@ pub fn config(rng: &mut Rng) -> Config {
 
 fn session(rng: &mut Rng, kind: u8) -> SessionRow {
     if rng.chance(40) {
-        return SessionRow { kind, p2: 50, p2_star: 5000, s3: 5000 };
+        return SessionRow {
+            kind,
+            p2: 50,
+            p2_star: 5000,
+            s3: 5000,
+        };
     }
-    SessionRow { kind, p2: rng.pick(&SPANS), p2_star: rng.pick(&SPANS), s3: rng.pick(&SPANS) }
+    SessionRow {
+        kind,
+        p2: rng.pick(&SPANS),
+        p2_star: rng.pick(&SPANS),
+        s3: rng.pick(&SPANS),
+    }
 }
 
 fn sessions(rng: &mut Rng) -> Vec<SessionRow> {
@@ -85,7 +111,11 @@ fn services(rng: &mut Rng, kinds: &[u8]) -> Vec<ServiceRow> {
     let row = |sid| ServiceRow {
         sid,
         level: rng.pick(&[0, 0, 1, 255]),
-        sessions: if odd { list(rng, kinds) } else { kinds.to_vec() },
+        sessions: if odd {
+            list(rng, kinds)
+        } else {
+            kinds.to_vec()
+        },
     };
     sids.into_iter().map(row).collect()
 }
@@ -104,15 +134,25 @@ fn identifier(rng: &mut Rng, id: u16, kinds: &[u8]) -> IdentifierRow {
 fn identifiers(rng: &mut Rng, kinds: &[u8]) -> Vec<IdentifierRow> {
     let mut ids = vec![0xF190, 0xF201, 0xF202];
     let more = rng.below(6);
-    ids.extend((0..more).map(|_| rng.pick(&[0xF200, 0xF2FF, 0x0000, 0xFFFF, 0xF190, 0xF201, 0x1234])));
+    ids.extend(
+        (0..more).map(|_| rng.pick(&[0xF200, 0xF2FF, 0x0000, 0xFFFF, 0xF190, 0xF201, 0x1234])),
+    );
     if rng.chance(15) {
         ids.extend(0xF210..=0xF224);
     }
-    let mut rows: Vec<_> = ids.into_iter().map(|id| identifier(rng, id, kinds)).collect();
+    let mut rows: Vec<_> = ids
+        .into_iter()
+        .map(|id| identifier(rng, id, kinds))
+        .collect();
     if rng.chance(2) {
         while rows.len() < 128 {
             let id = rng.next() as u16;
-            rows.push(IdentifierRow { id, readable: vec![1], writable: vec![], ..rows[0].clone() });
+            rows.push(IdentifierRow {
+                id,
+                readable: vec![1],
+                writable: vec![],
+                ..rows[0].clone()
+            });
         }
     }
     rows
@@ -144,22 +184,45 @@ fn break_a_number(rng: &mut Rng, c: &mut Config) {
     let long = rng.bytes(9);
     let span = rng.pick(&[1 << 32, 1 << 33, u64::MAX]);
     let last = c.identifiers.len() - 1;
-    match rng.below(11) {
+    match rng.below(13) {
         0 => c.sessions.resize(9, c.sessions[0].clone()),
         1 => c.services.resize(25, c.services[0].clone()),
         2 => c.identifiers.resize(129, c.identifiers[0].clone()),
-        3 => c.levels = vec![LevelRow { level: 3, attempts: 3, lockout: 1, seed: 4, key: 4 }; 9],
+        3 => c.levels.resize(9, plain_level()),
         4 => c.sessions[0].p2 = span,
         5 => c.sessions[0].p2_star = span,
         6 => c.sessions[0].s3 = span,
         7 => c.identifiers[last].minimum = span,
         8 => c.services[0].sessions = long,
-        9 if rng.chance(50) => c.identifiers[last].readable = long,
-        9 => c.identifiers[last].writable = long,
+        9 => c.identifiers[last].readable = long,
+        10 => c.identifiers[last].writable = long,
+        11 => c.levels.insert(
+            0,
+            LevelRow {
+                lockout: span,
+                ..plain_level()
+            },
+        ),
         _ => {
             let (seed, key) = rng.pick(&[(33, 4), (4, 33), (256, 4), (4, u64::MAX)]);
-            c.levels.push(LevelRow { level: 3, attempts: 3, lockout: span - 1, seed, key });
-            c.levels.truncate(8);
+            c.levels.insert(
+                0,
+                LevelRow {
+                    seed,
+                    key,
+                    ..plain_level()
+                },
+            );
         }
+    }
+}
+
+fn plain_level() -> LevelRow {
+    LevelRow {
+        level: 3,
+        attempts: 3,
+        lockout: 10_000,
+        seed: 4,
+        key: 4,
     }
 }

@@ -13,7 +13,9 @@ fn read(path: &str) -> Result<Edit, String> {
     let text = std::fs::read_to_string(path).map_err(|e| format!("{path}: {e}"))?;
     let field = |name: &str| {
         let head = format!("{name} ");
-        text.lines().find_map(|line| line.strip_prefix(&head)).map(|v| v.trim().to_string())
+        text.lines()
+            .find_map(|line| line.strip_prefix(&head))
+            .map(|v| v.trim().to_string())
     };
     let needed = |name: &str| field(name).ok_or(format!("{path}: no line {name}"));
     let nth = field("nth").map_or(Ok(0), |n| n.parse());
@@ -31,11 +33,18 @@ pub fn apply(path: &str, dir: &str) -> Result<(), String> {
     let target = format!("{dir}/{}", edit.file);
     let text = std::fs::read_to_string(&target).map_err(|e| format!("{target}: {e}"))?;
     let mut lines: Vec<&str> = text.lines().collect();
-    let places: Vec<usize> = (0..lines.len()).filter(|i| lines[*i].trim() == edit.old).collect();
+    let places: Vec<usize> = (0..lines.len())
+        .filter(|i| lines[*i].trim() == edit.old)
+        .collect();
     let place = match (edit.nth, &places[..]) {
         (0, [one]) => *one,
         (nth, many) if nth > 0 && nth <= many.len() => many[nth - 1],
-        _ => return Err(format!("{path}: the old line stands {} times", places.len())),
+        _ => {
+            return Err(format!(
+                "{path}: the old line stands {} times",
+                places.len()
+            ));
+        }
     };
     let old = lines[place];
     let indent = &old[..old.len() - old.trim_start().len()];

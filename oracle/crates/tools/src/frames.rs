@@ -7,11 +7,13 @@ use crate::configs::OTHERS;
 use crate::rng::Rng;
 
 /// Around the limits of an act's bytes and of the replies that carry them.
-const LENGTHS: [usize; 17] =
-    [0, 0, 1, 1, 2, 4, 63, 64, 65, 251, 252, 253, 254, 255, 256, 257, 300];
+const LENGTHS: [usize; 17] = [
+    0, 0, 1, 1, 2, 4, 63, 64, 65, 251, 252, 253, 254, 255, 256, 257, 300,
+];
 
-const ERRORS: [u8; 12] =
-    [0x78, 0x78, 0x78, 0x11, 0x12, 0x31, 0x7E, 0x7F, 0x22, 0x33, 0x01, 0xFF];
+const ERRORS: [u8; 12] = [
+    0x78, 0x78, 0x78, 0x11, 0x12, 0x31, 0x7E, 0x7F, 0x22, 0x33, 0x01, 0xFF,
+];
 
 pub fn frame(rng: &mut Rng, s: &Server) -> Vec<u8> {
     let mut frame = match rng.below(40) {
@@ -78,15 +80,28 @@ fn sub(rng: &mut Rng, of: &[u8]) -> Vec<u8> {
 }
 
 fn session(rng: &mut Rng, s: &Server) -> Vec<u8> {
-    let kinds: Vec<u8> = s.config.sessions.iter().map(|row| row.kind & 0x7F).collect();
-    let kind = if kinds.is_empty() || rng.chance(12) { rng.byte() & 0x7F } else { rng.pick(&kinds) };
+    let kinds: Vec<u8> = s
+        .config
+        .sessions
+        .iter()
+        .map(|row| row.kind & 0x7F)
+        .collect();
+    let kind = if kinds.is_empty() || rng.chance(12) {
+        rng.byte() & 0x7F
+    } else {
+        rng.pick(&kinds)
+    };
     sub(rng, &[kind])
 }
 
 /// Mostly one of the configured identifiers.
 fn identifier(rng: &mut Rng, s: &Server) -> [u8; 2] {
     let ids: Vec<u16> = s.config.identifiers.iter().map(|row| row.id).collect();
-    let id = if ids.is_empty() || rng.chance(8) { rng.next() as u16 } else { rng.pick(&ids) };
+    let id = if ids.is_empty() || rng.chance(8) {
+        rng.next() as u16
+    } else {
+        rng.pick(&ids)
+    };
     id.to_be_bytes()
 }
 
@@ -102,20 +117,31 @@ fn read(rng: &mut Rng, s: &Server) -> Vec<u8> {
 /// Mostly the key for the seed that is pending, of the configured length.
 fn access(rng: &mut Rng, s: &Server) -> Vec<u8> {
     let pending = s.state.seed_level;
-    let levels: Vec<u8> = s.config.levels.iter().map(|row| row.level).collect();
     let bit = if rng.chance(10) { 0x80 } else { 0 };
     if rng.chance(6) {
         let kind = rng.pick(&[0, 2, 4, 7, 0x7F, 0x7E]) | bit;
         return [vec![kind], some(rng, 5)].concat();
     }
-    let even = if pending != 0 { rng.chance(75) } else { rng.chance(15) };
-    if !even {
-        let level = if levels.is_empty() { 3 } else { rng.pick(&levels) };
-        return [vec![level & 0x7F | bit], if rng.chance(20) { some(rng, 3) } else { vec![] }].concat();
+    if rng.chance(if pending != 0 { 75 } else { 15 }) {
+        return key(rng, s, bit);
     }
-    let level = if pending != 0 && rng.chance(90) { pending } else { rng.pick(&[1, 3, 5]) };
-    let expected = s.config.levels.iter().find(|row| row.level == level).map_or(4, |row| row.key);
-    let expected = (expected as usize).min(40);
+    let levels: Vec<u8> = s.config.levels.iter().map(|row| row.level).collect();
+    let level = if levels.is_empty() {
+        3
+    } else {
+        rng.pick(&levels)
+    };
+    let rest = if rng.chance(20) { 3 } else { 0 };
+    [vec![level & 0x7F | bit], some(rng, rest)].concat()
+}
+
+/// A key for the level whose seed is pending, of about the configured length.
+fn key(rng: &mut Rng, s: &Server, bit: u8) -> Vec<u8> {
+    let pending = s.state.seed_level;
+    let own = pending != 0 && rng.chance(90);
+    let level = if own { pending } else { rng.pick(&[1, 3, 5]) };
+    let row = s.config.levels.iter().find(|row| row.level == level);
+    let expected = row.map_or(4, |row| row.key.min(40) as usize);
     let length = match rng.below(10) {
         0 => expected.saturating_sub(1),
         1 => expected + 1,
@@ -128,7 +154,12 @@ fn access(rng: &mut Rng, s: &Server) -> Vec<u8> {
 /// Few modes are wrong; identifiers are those of the table or of the configuration.
 fn periodic(rng: &mut Rng, s: &Server) -> Vec<u8> {
     let mode = rng.pick(&[1, 1, 2, 2, 3, 3, 3, 4, 4, 0, 5, 0x81, 0x84]);
-    let mut lows: Vec<u8> = s.config.identifiers.iter().map(|row| row.id as u8).collect();
+    let mut lows: Vec<u8> = s
+        .config
+        .identifiers
+        .iter()
+        .map(|row| row.id as u8)
+        .collect();
     lows.extend(s.state.periodic.iter().map(|e| e.id as u8));
     if rng.chance(20) {
         lows.push(rng.byte());
@@ -154,7 +185,11 @@ fn download(rng: &mut Rng) -> Vec<u8> {
         2 => address,
         _ => address + size,
     };
-    [vec![rng.byte(), (address << 4 | size) as u8], rng.bytes(there)].concat()
+    [
+        vec![rng.byte(), (address << 4 | size) as u8],
+        rng.bytes(there),
+    ]
+    .concat()
 }
 
 fn file(rng: &mut Rng) -> Vec<u8> {
@@ -174,13 +209,25 @@ pub fn outcome(rng: &mut Rng, s: &Server, frame: &[u8]) -> Outcome {
     let kind = frame.get(1).map_or(0, |b| b & 0x7F);
     let sid = frame.first().copied().unwrap_or(0);
     let refusing = if sid == 0x27 && kind % 2 == 0 { 45 } else { 20 };
-    let error = if rng.chance(refusing) { rng.pick(&ERRORS) } else { 0 };
-    let asked = s.config.levels.iter().find(|row| row.level == kind).map(|row| row.seed);
+    let error = if rng.chance(refusing) {
+        rng.pick(&ERRORS)
+    } else {
+        0
+    };
+    let asked = s
+        .config
+        .levels
+        .iter()
+        .find(|row| row.level == kind)
+        .map(|row| row.seed);
     let length = match asked {
         Some(seed) if sid == 0x27 && rng.chance(80) => (seed as usize).min(40),
         _ if error != 0 && rng.chance(70) => 0,
         _ if sid == 0x27 => rng.pick(&[0, 1, 3, 4, 5, 31, 32, 33, 64, 256, 257]),
         _ => rng.pick(&LENGTHS),
     };
-    Outcome { error, bytes: rng.bytes(length) }
+    Outcome {
+        error,
+        bytes: rng.bytes(length),
+    }
 }

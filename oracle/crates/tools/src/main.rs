@@ -58,9 +58,13 @@ fn run(words: &[&str]) -> Result<(), String> {
             compare::expect_difference(number(seed)?, number(count)?, a, b)
         }
         ["soak", seconds, seed, a, b] => compare::soak(number(seconds)?, number(seed)?, a, b),
-        ["sample", seed, scripts, traces, dir, command] => {
-            sample::choose(number(seed)?, number(scripts)?, number(traces)?, dir, command)
-        }
+        ["sample", seed, scripts, traces, dir, command] => sample::choose(
+            number(seed)?,
+            number(scripts)?,
+            number(traces)?,
+            dir,
+            command,
+        ),
         ["replay", dir, command] => sample::replay(dir, command),
         ["edit", file, dir] => edit::apply(file, dir),
         _ => Err(USAGE.to_string()),

@@ -27,8 +27,9 @@ pub fn of_trace(bytes: &[u8], answers: &mut BTreeMap<String, u64>) -> Hits {
     rules.hits
 }
 
-const CALLS: [&str; 9] =
-    ["fresh", "request", "question", "tick", "complete", "fail", "drain", "1", "2"];
+const CALLS: [&str; 9] = [
+    "fresh", "request", "question", "tick", "complete", "fail", "drain", "1", "2",
+];
 
 fn count_answers(head: &str, out: &str, answers: &mut BTreeMap<String, u64>) {
     for line in out.lines() {
@@ -36,7 +37,9 @@ fn count_answers(head: &str, out: &str, answers: &mut BTreeMap<String, u64>) {
         if let (Some(name), Some(result)) = (words.next(), words.next())
             && CALLS.contains(&name)
         {
-            *answers.entry(format!("{head}{name}, result {result}")).or_default() += 1;
+            *answers
+                .entry(format!("{head}{name}, result {result}"))
+                .or_default() += 1;
         }
     }
 }
@@ -55,7 +58,9 @@ pub fn branches(seed: u64, script_count: u64, trace_count: u64) -> Result<(), St
     }
     let calls: u64 = answers.values().sum();
     let (reached, all) = (hits.reached().len(), hits.counts().len());
-    println!("{script_count} scripts, {trace_count} traces, {calls} calls: {reached} of {all} branches");
+    println!(
+        "{script_count} scripts, {trace_count} traces, {calls} calls: {reached} of {all} branches"
+    );
     match hits.unreached()[..] {
         [] => Ok(()),
         ref left => Err(format!("not reached: {}", left.join("; "))),

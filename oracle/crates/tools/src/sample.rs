@@ -35,7 +35,10 @@ fn script_names(lines: &[Line]) -> Names {
 /// other branches are in the scripts, which show more of each call.
 fn trace_names(bytes: &[u8]) -> Names {
     let wanted = |name: &String| name.starts_with("trace") || name.ends_with(" positive");
-    names(&of_trace(bytes, &mut BTreeMap::new())).into_iter().filter(wanted).collect()
+    names(&of_trace(bytes, &mut BTreeMap::new()))
+        .into_iter()
+        .filter(wanted)
+        .collect()
 }
 
 /// Chooses greedily by what is new in a candidate for its size; says what each one chosen was chosen for.
@@ -44,7 +47,10 @@ fn cover(from: &[Candidate]) -> Vec<(u64, Names)> {
     let mut chosen = Vec::new();
     while !wanted.is_empty() {
         let worth = |c: &&Candidate| c.names.intersection(&wanted).count() * 1_000_000 / c.size;
-        let best = from.iter().max_by_key(worth).expect("what is wanted is in some candidate");
+        let best = from
+            .iter()
+            .max_by_key(worth)
+            .expect("what is wanted is in some candidate");
         let new: Names = best.names.intersection(&wanted).cloned().collect();
         wanted.retain(|name| !new.contains(name));
         chosen.push((best.number, new));
@@ -55,14 +61,24 @@ fn cover(from: &[Candidate]) -> Vec<(u64, Names)> {
 fn choose_scripts(seed: u64, count: u64) -> String {
     let candidate = |number| {
         let lines = scripts::script(seed, number);
-        Candidate { number, size: scripts::text(&lines).len(), names: script_names(&lines) }
+        Candidate {
+            number,
+            size: scripts::text(&lines).len(),
+            names: script_names(&lines),
+        }
     };
     let all: Vec<Candidate> = (0..count).map(candidate).collect();
     let mut text = String::new();
     for (number, wanted) in cover(&all) {
-        let mut shows = |lines: &[Line]| stands_alone(lines) && wanted.is_subset(&script_names(lines));
-        let mut shrinker = Shrinker { shows: &mut shows, simpler: &|_| Vec::new() };
-        text.push_str(&scripts::text(&shrinker.shrink(scripts::script(seed, number))));
+        let mut shows =
+            |lines: &[Line]| stands_alone(lines) && wanted.is_subset(&script_names(lines));
+        let mut shrinker = Shrinker {
+            shows: &mut shows,
+            simpler: &|_| Vec::new(),
+        };
+        text.push_str(&scripts::text(
+            &shrinker.shrink(scripts::script(seed, number)),
+        ));
     }
     text
 }
@@ -78,22 +94,41 @@ fn stands_alone(lines: &[Line]) -> bool {
 fn choose_traces(seed: u64, count: u64) -> Vec<Vec<u8>> {
     let candidate = |number| {
         let bytes = traces::trace(seed, number);
-        Candidate { number, size: bytes.len() + FILE, names: trace_names(&bytes) }
+        Candidate {
+            number,
+            size: bytes.len() + FILE,
+            names: trace_names(&bytes),
+        }
     };
     let all: Vec<Candidate> = (0..count).map(candidate).collect();
-    cover(&all).into_iter().map(|(number, _)| traces::trace(seed, number)).collect()
+    cover(&all)
+        .into_iter()
+        .map(|(number, _)| traces::trace(seed, number))
+        .collect()
 }
 
-pub fn choose(seed: u64, scripts: u64, traces: u64, dir: &str, command: &str) -> Result<(), String> {
+pub fn choose(
+    seed: u64,
+    scripts: u64,
+    traces: u64,
+    dir: &str,
+    command: &str,
+) -> Result<(), String> {
     let store = |name: &str, bytes: &[u8]| {
         fs::write(format!("{dir}/{name}"), bytes).map_err(|e| format!("{dir}/{name}: {e}"))
     };
     let text = choose_scripts(seed, scripts);
     store("scripts.txt", text.as_bytes())?;
-    store("scripts.out", run(command, "script", text.as_bytes())?.as_bytes())?;
+    store(
+        "scripts.out",
+        run(command, "script", text.as_bytes())?.as_bytes(),
+    )?;
     for (nth, bytes) in choose_traces(seed, traces).iter().enumerate() {
         store(&format!("trace-{nth:02}.bin"), bytes)?;
-        store(&format!("trace-{nth:02}.out"), run(command, "trace", bytes)?.as_bytes())?;
+        store(
+            &format!("trace-{nth:02}.out"),
+            run(command, "trace", bytes)?.as_bytes(),
+        )?;
     }
     replay(dir, command)
 }
@@ -112,13 +147,19 @@ pub fn replay(dir: &str, command: &str) -> Result<(), String> {
         };
         let input = read(&path)?;
         if run(command, form, &input)?.as_bytes() != read(&path.with_extension("out"))? {
-            return Err(format!("{}: {command} gives another answer than stored", path.display()));
+            return Err(format!(
+                "{}: {command} gives another answer than stored",
+                path.display()
+            ));
         }
         hits.add(&reached(form, &input)?);
         files += 1;
     }
     match hits.unreached()[..] {
-        [] => println!("{files} stored inputs, {} branches, answers as stored", hits.reached().len()),
+        [] => println!(
+            "{files} stored inputs, {} branches, answers as stored",
+            hits.reached().len()
+        ),
         ref left => return Err(format!("the sample does not reach: {}", left.join("; "))),
     }
     Ok(())
@@ -130,5 +171,8 @@ fn reached(form: &str, input: &[u8]) -> Result<Hits, String> {
     }
     let text = String::from_utf8_lossy(input);
     let lines: Option<Vec<Line>> = text.lines().map(parse).collect();
-    Ok(of_script(&lines.ok_or("the stored scripts do not parse")?, &mut BTreeMap::new()))
+    Ok(of_script(
+        &lines.ok_or("the stored scripts do not parse")?,
+        &mut BTreeMap::new(),
+    ))
 }

@@ -31,7 +31,12 @@ impl Maker {
 
     fn ask(&mut self, time: u64, frame: Vec<u8>, outcome: Outcome) {
         let dst = self.either_address();
-        let r = Request { time, src: CLIENT, dst, frame };
+        let r = Request {
+            time,
+            src: CLIENT,
+            dst,
+            frame,
+        };
         if self.rng.chance(15) {
             self.add(Line::Question(r.clone()));
         }
@@ -39,14 +44,26 @@ impl Maker {
     }
 
     fn outcome(&mut self, refused: usize) -> Outcome {
-        let error = if self.rng.chance(refused) { self.rng.pick(&[0x35, 0x78, 0x11, 1]) } else { 0 };
-        Outcome { error, bytes: vec![] }
+        let error = if self.rng.chance(refused) {
+            self.rng.pick(&[0x35, 0x78, 0x11, 1])
+        } else {
+            0
+        };
+        Outcome {
+            error,
+            bytes: vec![],
+        }
     }
 
     /// Stands in a session and at a level, with the last frame just received.
     fn stand(&mut self, session: u8, level: u8) {
         let functional = self.player.server.state.functional;
-        self.add(Line::State { session, level, last_rx: self.now, functional });
+        self.add(Line::State {
+            session,
+            level,
+            last_rx: self.now,
+            functional,
+        });
     }
 
     /// A key for a pending seed, its lock ending about now and its count at an edge.
@@ -81,15 +98,24 @@ impl Maker {
         self.add(Line::Seed(row.level, held));
         let right = row.seed.min(32) as usize;
         let length = self.rng.pick(&[right, right, right + 1, 0, 33, 257]);
-        let error = if self.rng.chance(25) { self.rng.pick(&[0x78, 0x22]) } else { 0 };
-        let outcome = Outcome { error, bytes: self.rng.bytes(length) };
+        let error = if self.rng.chance(25) {
+            self.rng.pick(&[0x78, 0x22])
+        } else {
+            0
+        };
+        let outcome = Outcome {
+            error,
+            bytes: self.rng.bytes(length),
+        };
         self.ask(self.now, vec![0x27, row.level & 0x7F], outcome);
     }
 
     fn readable_f2(&self) -> Vec<IdentifierRow> {
         let session = self.player.server.state.session;
         let rows = self.player.server.config.identifiers.iter();
-        rows.filter(|r| r.id >> 8 == 0xF2 && r.readable.contains(&session)).cloned().collect()
+        rows.filter(|r| r.id >> 8 == 0xF2 && r.readable.contains(&session))
+            .cloned()
+            .collect()
     }
 
     /// Fills the table to its last place or the one before, then asks for one more or two.
@@ -97,7 +123,12 @@ impl Maker {
         let full = self.rng.pick(&[15, 16]);
         for low in self.player.server.state.periodic.len()..full {
             let (id, next) = (0xF280 | low as u16, self.now + 50);
-            self.add(Line::Periodic(Entry { id, client: 7, interval: 50, next }));
+            self.add(Line::Periodic(Entry {
+                id,
+                client: 7,
+                interval: 50,
+                next,
+            }));
         }
         let ids: Vec<u8> = self.readable_f2().iter().map(|r| r.id as u8).collect();
         if ids.is_empty() {
@@ -117,12 +148,26 @@ impl Maker {
         let room = 16 - self.player.server.state.periodic.len();
         for low in 0..self.rng.pick(&[1, 2, 3]).min(room) {
             let id = 0xF2A0 | low as u16;
-            let error = if self.rng.chance(15) { self.rng.pick(&[0x22, 0x78]) } else { 0 };
+            let error = if self.rng.chance(15) {
+                self.rng.pick(&[0x22, 0x78])
+            } else {
+                0
+            };
             let length = self.rng.pick(&[0, 1, 254, 255, 255, 256]);
-            self.add(Line::Row(ValueRow { id, error, start: 0, length }));
+            self.add(Line::Row(ValueRow {
+                id,
+                error,
+                start: 0,
+                length,
+            }));
             let next = (self.now + self.rng.pick(&[0, 0, 1, 2])).saturating_sub(1);
             let interval = self.rng.pick(&[50, 500]);
-            self.add(Line::Periodic(Entry { id, client: 9, interval, next }));
+            self.add(Line::Periodic(Entry {
+                id,
+                client: 9,
+                interval,
+                next,
+            }));
         }
         for _ in self.player.server.state.queue.len()..self.rng.pick(&[0, 13, 14, 15, 16]) {
             self.add(Line::Queued(1, vec![1]));
@@ -134,11 +179,20 @@ impl Maker {
     fn latest_time(&mut self) {
         if self.rng.chance(70) {
             let deadline = self.rng.pick(&[LATEST - 1, LATEST, LATEST + 1]);
-            self.add(Line::Pending(Pending { dst: CLIENT, sid: 0x31, deadline }));
+            self.add(Line::Pending(Pending {
+                dst: CLIENT,
+                sid: 0x31,
+                deadline,
+            }));
         }
         let time = self.rng.pick(&[LATEST, LATEST, LATEST + 1]);
         let frame = frames::frame(&mut self.rng, &self.player.server);
-        let r = Request { time, src: CLIENT, dst: self.either_address(), frame };
+        let r = Request {
+            time,
+            src: CLIENT,
+            dst: self.either_address(),
+            frame,
+        };
         let line = match self.rng.below(5) {
             0 => Line::Request(r, self.outcome(20)),
             1 => Line::Question(r),
@@ -156,15 +210,10 @@ impl Maker {
         };
         let lists = [&row.readable[..], &row.writable].concat();
         let session = lists.first().copied().unwrap_or(1);
-        let level = row.level;
-        let held = self.rng.pick(&[level, level, level.saturating_sub(1), level.saturating_add(1)]);
+        let (below, above) = (row.level.saturating_sub(1), row.level.saturating_add(1));
+        let held = self.rng.pick(&[row.level, row.level, below, above]);
         self.stand(session, held);
-        self.add(Line::Values);
-        let pool = self.rng.bytes(256);
-        self.add(Line::Pool(pool));
-        let error = if self.rng.chance(25) { self.rng.pick(&[0x78, 0x78, 0x7E, 0xFF]) } else { 0 };
-        let length = self.rng.pick(&[0, 1, 125, 126, 252, 253, 254, 255, 256, 257]);
-        self.add(Line::Row(ValueRow { id: row.id, error, start: 0, length }));
+        self.one_value(row.id);
         let id = row.id.to_be_bytes().to_vec();
         let frame = match self.rng.below(4) {
             0 => [vec![0x2E], id, vec![1]].concat(),
@@ -173,6 +222,28 @@ impl Maker {
         };
         let outcome = frames::outcome(&mut self.rng, &self.player.server, &frame);
         self.ask(self.now, frame, outcome);
+    }
+
+    /// A value table of one row, with a length around what a reply can carry.
+    fn one_value(&mut self, id: u16) {
+        self.add(Line::Values);
+        let pool = self.rng.bytes(256);
+        self.add(Line::Pool(pool));
+        let faulty = self.rng.chance(25);
+        let error = if faulty {
+            self.rng.pick(&[0x78, 0x78, 0x7E, 0xFF])
+        } else {
+            0
+        };
+        let lengths = [0, 1, 125, 126, 252, 253, 254, 255, 256, 257];
+        let length = self.rng.pick(&lengths);
+        let start = 0;
+        self.add(Line::Row(ValueRow {
+            id,
+            error,
+            start,
+            length,
+        }));
     }
 
     /// A slow act in a session that services name and that has no row: the default P2* serves.
@@ -186,14 +257,21 @@ impl Maker {
             return;
         };
         self.stand(session, 0);
-        let outcome = Outcome { error: 0x78, bytes: vec![] };
+        let outcome = Outcome {
+            error: 0x78,
+            bytes: vec![],
+        };
         self.ask(self.now, vec![0x31, 1, 2, 3], outcome);
     }
 
     /// A second request while one is pending, of every length that is answered otherwise when none is.
     fn busy(&mut self) {
         let client = states::client(&mut self.rng);
-        self.add(Line::Pending(Pending { dst: client, sid: 0x31, deadline: self.now }));
+        self.add(Line::Pending(Pending {
+            dst: client,
+            sid: 0x31,
+            deadline: self.now,
+        }));
         let frame = match self.rng.below(5) {
             0 => vec![],
             1 => vec![0x22; 4096],

@@ -21,8 +21,13 @@ pub fn script(seed: u64, number: u64) -> Vec<Line> {
     let mut rng = Rng::new(seed ^ number.wrapping_mul(0xD6E8_FEB8_6659_FD93));
     rng.next();
     let now = rng.pick(&[0, 100, 7000, 1_000_000, states::LATEST - 6000]);
-    let mut maker =
-        Maker { rng, player: Player::default(), rules: Rules::default(), now, lines: Vec::new() };
+    let mut maker = Maker {
+        rng,
+        player: Player::default(),
+        rules: Rules::default(),
+        now,
+        lines: Vec::new(),
+    };
     maker.begin();
     let calls = 4 + maker.rng.below(20);
     for _ in 0..calls {
@@ -99,7 +104,12 @@ impl Maker {
             _ => u32::from(c.physical),
         };
         let frame = frames::frame(&mut self.rng, s);
-        Request { time, src: states::client(&mut self.rng), dst, frame }
+        Request {
+            time,
+            src: states::client(&mut self.rng),
+            dst,
+            frame,
+        }
     }
 
     fn call(&mut self) {
@@ -140,7 +150,9 @@ impl Maker {
             let bytes = self.rng.bytes(length);
             self.add(Line::Complete(time, bytes));
         } else {
-            let code = self.rng.pick(&[0, 0x11, 0x12, 0x22, 0x31, 0x72, 0x78, 0x7E, 0x7F, 0xFF]);
+            let code = self
+                .rng
+                .pick(&[0, 0x11, 0x12, 0x22, 0x31, 0x72, 0x78, 0x7E, 0x7F, 0xFF]);
             self.add(Line::Fail(time, code));
         }
     }

@@ -105,7 +105,12 @@ fn simpler_bytes(bytes: &[u8]) -> Vec<Vec<u8>> {
         return Vec::new();
     }
     let mut all = vec![vec![], bytes[..n / 2].to_vec(), bytes[n / 2..].to_vec()];
-    all.extend((2..12).map(|k| n >> k).take_while(|cut| *cut > 1).map(|cut| bytes[..n - cut].to_vec()));
+    all.extend(
+        (2..12)
+            .map(|k| n >> k)
+            .take_while(|cut| *cut > 1)
+            .map(|cut| bytes[..n - cut].to_vec()),
+    );
     all.extend((0..n.min(48)).map(|i| [&bytes[..i], &bytes[i + 1..]].concat()));
     if n > 48 {
         all.push(bytes[..n - 1].to_vec());
@@ -125,10 +130,12 @@ pub fn simpler_record(record: &[u8]) -> Vec<Vec<u8>> {
     if record.len() < 4 {
         return Vec::new();
     }
-    let mended = |body: Vec<u8>| {
-        [&(body.len() as u16).to_le_bytes()[..], &record[2..4], &body].concat()
-    };
-    simpler_bytes(&record[4..]).into_iter().map(mended).collect()
+    let mended =
+        |body: Vec<u8>| [&(body.len() as u16).to_le_bytes()[..], &record[2..4], &body].concat();
+    simpler_bytes(&record[4..])
+        .into_iter()
+        .map(mended)
+        .collect()
 }
 
 #[cfg(test)]
@@ -143,7 +150,11 @@ mod tests {
             numbers.iter().any(|n| *n >= 1234) && numbers.iter().any(|n| *n < 1000)
         };
         let simpler = |line: &String| simpler_line(line);
-        let small = Shrinker { shows: &mut shows, simpler: &simpler }.shrink(lines);
+        let small = Shrinker {
+            shows: &mut shows,
+            simpler: &simpler,
+        }
+        .shrink(lines);
         assert_eq!(small, ["tick 0", "tick 1234"]);
     }
 
@@ -152,7 +163,11 @@ mod tests {
         let mut shows = |lines: &[String]| lines.iter().any(|l| l.contains("7F"));
         let simpler = |line: &String| simpler_line(line);
         let line = vec!["pool 0102037F05060708".to_string()];
-        let small = Shrinker { shows: &mut shows, simpler: &simpler }.shrink(line);
+        let small = Shrinker {
+            shows: &mut shows,
+            simpler: &simpler,
+        }
+        .shrink(line);
         assert_eq!(small, ["pool 7F"]);
     }
 }

@@ -9,15 +9,14 @@ pub const LATEST: u64 = 1 << 48;
 
 /// The lines of a state that the published server's types can hold; now and then one that no rule accepts.
 pub fn state(rng: &mut Rng, c: &Config, now: u64) -> Vec<Line> {
-    let mut kinds: Vec<u8> = c.sessions.iter().map(|row| row.kind).collect();
-    kinds.extend(c.services.first().and_then(|row| row.sessions.last()));
-    let session = if kinds.is_empty() || rng.chance(10) { rng.byte() } else { rng.pick(&kinds) };
-    let level = rng.pick(&[0, 0, 1, 3, 3, 5, 255]);
-    let last_rx = around(rng, now);
-    let mut lines = vec![Line::State { session, level, last_rx, functional: rng.chance(40) }];
+    let mut lines = vec![standing(rng, c, now)];
     if rng.chance(30) {
         let (dst, sid) = (client(rng), rng.pick(&[0x31, 0x22, 0x36, 0xFF]));
-        lines.push(Line::Pending(Pending { dst, sid, deadline: around(rng, now) }));
+        lines.push(Line::Pending(Pending {
+            dst,
+            sid,
+            deadline: around(rng, now),
+        }));
     }
     if rng.chance(60) {
         let length = rng.pick(&[0, 1, 4, 4, 31, 32]);
@@ -38,13 +37,30 @@ pub fn state(rng: &mut Rng, c: &Config, now: u64) -> Vec<Line> {
     lines
 }
 
+/// Session, level, last_rx and address mode.
+fn standing(rng: &mut Rng, c: &Config, now: u64) -> Line {
+    let mut kinds: Vec<u8> = c.sessions.iter().map(|row| row.kind).collect();
+    kinds.extend(c.services.first().and_then(|row| row.sessions.last()));
+    let any = kinds.is_empty() || rng.chance(10);
+    Line::State {
+        session: if any { rng.byte() } else { rng.pick(&kinds) },
+        level: rng.pick(&[0, 0, 1, 3, 3, 5, 255]),
+        last_rx: around(rng, now),
+        functional: rng.chance(40),
+    }
+}
+
 pub fn client(rng: &mut Rng) -> u32 {
     rng.pick(&[3712, 3712, 3712, 3713, 16, 0, u32::MAX])
 }
 
 fn around(rng: &mut Rng, now: u64) -> u64 {
     let away = rng.pick(&[0, 1, 2, 50, 900, 4999, 5000, 5001, 6000, 20_000]);
-    if rng.chance(50) { now.saturating_sub(away) } else { (now + away).min(LATEST + 5000) }
+    if rng.chance(50) {
+        now.saturating_sub(away)
+    } else {
+        (now + away).min(LATEST + 5000)
+    }
 }
 
 fn counts_and_locks(rng: &mut Rng, now: u64) -> Vec<Line> {
@@ -67,17 +83,31 @@ fn counts_and_locks(rng: &mut Rng, now: u64) -> Vec<Line> {
 
 fn subscriptions(rng: &mut Rng, c: &Config, now: u64) -> Vec<Entry> {
     let count = rng.pick(&[1, 2, 3, 14, 15, 16]);
-    let ids: Vec<u16> = c.identifiers.iter().map(|row| row.id).filter(|id| id >> 8 == 0xF2).collect();
+    let ids: Vec<u16> = c
+        .identifiers
+        .iter()
+        .map(|row| row.id)
+        .filter(|id| id >> 8 == 0xF2)
+        .collect();
     let twice = rng.chance(15);
     let mut all: Vec<Entry> = Vec::new();
     for _ in 0..count {
         let own = ids.is_empty() || rng.chance(40);
-        let id = if own { 0xF200 | u16::from(rng.byte()) } else { rng.pick(&ids) };
+        let id = if own {
+            0xF200 | u16::from(rng.byte())
+        } else {
+            rng.pick(&ids)
+        };
         let id = if rng.chance(5) { rng.next() as u16 } else { id };
         let (client, next) = (client(rng), around(rng, now));
         let interval = rng.pick(&[0, 50, 50, 500, 2000, (1 << 32) - 1]);
         if twice || !all.iter().any(|e| e.id == id && e.client == client) {
-            all.push(Entry { id, client, interval, next });
+            all.push(Entry {
+                id,
+                client,
+                interval,
+                next,
+            });
         }
     }
     all
@@ -86,40 +116,66 @@ fn subscriptions(rng: &mut Rng, c: &Config, now: u64) -> Vec<Entry> {
 fn queue(rng: &mut Rng) -> Vec<Line> {
     let count = rng.pick(&[1, 2, 14, 15, 16, 16]);
     let frame = |rng: &mut Rng| {
-        let length = if rng.chance(4) { rng.pick(&[255, 256]) } else { 1 + rng.below(3) };
+        let length = if rng.chance(4) {
+            rng.pick(&[255, 256])
+        } else {
+            1 + rng.below(3)
+        };
         Line::Queued(client(rng), rng.bytes(length))
     };
     (0..count).map(|_| frame(rng)).collect()
 }
 
-/// Breaks one rule for states.
+/// Takes one part of a state to its limit, mostly past it.
 fn damage(rng: &mut Rng, lines: &mut Vec<Line>) {
-    let late = rng.pick(&[LATEST + (1 << 32) + 1, (1 << 54) + 1, u64::MAX]);
-    let entry = Entry { id: 0xF201, client: 3712, interval: 50, next: 0 };
+    let limit = LATEST + (1 << 32);
+    let late = rng.pick(&[limit, limit + 1, limit + 1, (1 << 54) + 1, u64::MAX]);
+    let long = rng.pick(&[(1 << 32) - 1, 1 << 32, u64::MAX]);
     let line = match rng.below(6) {
         0 => Line::Queued(3712, vec![]),
-        1 => Line::State { session: 1, level: 0, last_rx: late, functional: false },
-        2 => Line::Pending(Pending { dst: 3712, sid: 0x31, deadline: late }),
+        1 => Line::State {
+            session: 1,
+            level: 0,
+            last_rx: late,
+            functional: false,
+        },
+        2 => Line::Pending(Pending {
+            dst: 3712,
+            sid: 0x31,
+            deadline: late,
+        }),
         3 => Line::Lock(3, late),
-        4 => Line::Periodic(Entry { next: late, ..entry }),
-        _ => Line::Periodic(Entry { interval: rng.pick(&[1 << 32, u64::MAX]), ..entry }),
+        part => Line::Periodic(Entry {
+            id: 0xF201,
+            client: 3712,
+            interval: if part == 4 { 50 } else { long },
+            next: if part == 4 { late } else { 0 },
+        }),
     };
+    if has_room(lines, &line) {
+        lines.push(line);
+    }
+}
+
+/// Whether the list that a line adds to has a place left.
+fn has_room(lines: &[Line], line: &Line) -> bool {
     let room = |is: fn(&Line) -> bool, most| lines.iter().filter(|l| is(l)).count() < most;
-    let fits = match line {
+    match line {
         Line::Queued(..) => room(|l| matches!(l, Line::Queued(..)), 16),
         Line::Lock(..) => room(|l| matches!(l, Line::Lock(..)), 8),
         Line::Periodic(..) => room(|l| matches!(l, Line::Periodic(..)), 16),
         _ => true,
-    };
-    if fits {
-        lines.push(line);
     }
 }
 
 /// A value table: rows for most identifiers, some twice, some missing, some damaged, over one pool.
 pub fn values(rng: &mut Rng, c: &Config) -> Vec<Line> {
     let large = rng.chance(25);
-    let pool = rng.pick(if large { &[255, 256, 257, 300] } else { &[0, 8, 8, 16] });
+    let pool = rng.pick(if large {
+        &[255, 256, 257, 300]
+    } else {
+        &[0, 8, 8, 16]
+    });
     let mut lines = vec![Line::Values];
     let mut ids: Vec<u16> = c.identifiers.iter().map(|row| row.id).take(40).collect();
     ids.dedup();
@@ -137,7 +193,11 @@ pub fn values(rng: &mut Rng, c: &Config) -> Vec<Line> {
 }
 
 fn value(rng: &mut Rng, id: u16, pool: usize) -> ValueRow {
-    let error = if rng.chance(10) { rng.pick(&[0x78, 0x31, 0x22, 0x7F, 0xFF]) } else { 0 };
+    let error = if rng.chance(10) {
+        rng.pick(&[0x78, 0x31, 0x22, 0x7F, 0xFF])
+    } else {
+        0
+    };
     let pool = pool as u64;
     let length = match rng.below(8) {
         0 => rng.pick(&[0, 1, 252, 253, 254, 255, 256, 257]),
@@ -153,8 +213,17 @@ fn value(rng: &mut Rng, id: u16, pool: usize) -> ValueRow {
         3 | 4 => pool.saturating_sub(length) / 2,
         _ => pool.saturating_sub(length),
     };
-    let length = if rng.chance(2) { u64::from(u32::MAX) } else { length };
-    ValueRow { id, error, start, length }
+    let length = if rng.chance(2) {
+        u64::from(u32::MAX)
+    } else {
+        length
+    };
+    ValueRow {
+        id,
+        error,
+        start,
+        length,
+    }
 }
 
 /// A time near one that matters in the state, a step on, a step back, or around the latest that is taken.
@@ -163,7 +232,11 @@ pub fn time(rng: &mut Rng, c: &Config, s: &State, now: u64) -> u64 {
     moments.extend(s.periodic.iter().map(|e| e.next));
     for _ in 0..4 {
         moments.extend(s.pending.iter().map(|p| p.deadline));
-        let s3 = c.sessions.iter().find(|row| row.kind == s.session).map_or(5000, |row| row.s3);
+        let s3 = c
+            .sessions
+            .iter()
+            .find(|row| row.kind == s.session)
+            .map_or(5000, |row| row.s3);
         moments.push(s.last_rx.saturating_add(s3));
     }
     match rng.below(24) {

@@ -15,7 +15,11 @@ pub fn trace(seed: u64, number: u64) -> Vec<u8> {
     let mut run = Run::new(&mut rules);
     let mut now = rng.pick(&[0, 100, states::LATEST - 6000]);
     let mut bytes = Vec::new();
-    let count = if rng.chance(10) { 60 + rng.below(150) } else { 3 + rng.below(25) };
+    let count = if rng.chance(10) {
+        60 + rng.below(150)
+    } else {
+        3 + rng.below(25)
+    };
     for _ in 0..count {
         let record = record(&mut rng, &run, &mut now);
         run.step(&mut rules, &record, &mut String::new());
@@ -32,13 +36,7 @@ pub fn trace(seed: u64, number: u64) -> Vec<u8> {
 fn record(rng: &mut Rng, run: &Run, now: &mut u64) -> Record {
     let s = &run.server;
     match rng.below(20) {
-        0..9 => {
-            let frame = frames::frame(rng, s);
-            let dst = rng.pick(&[16, 16, 16, 2015, 17]);
-            // Enough clients to fill the table with the one identifier that can be subscribed to.
-            let src = if rng.chance(30) { rng.below(24) as u32 } else { states::client(rng) };
-            Record::Request(Request { time: time(rng, run, now), src, dst, frame })
-        }
+        0..9 => Record::Request(request(rng, run, now)),
         9..12 => Record::Tick(time(rng, run, now)),
         12..17 => {
             let kind = s.state.seed_level + 1;
@@ -47,10 +45,35 @@ fn record(rng: &mut Rng, run: &Run, now: &mut u64) -> Record {
         }
         _ => {
             let length = rng.pick(&[0, 1, 4, 252, 253, 254, 255, 256, 257]);
-            let error = if rng.chance(10) { rng.pick(&[0x78, 0x31, 0xFF]) } else { 0 };
+            let faulty = rng.chance(10);
+            let error = if faulty {
+                rng.pick(&[0x78, 0x31, 0xFF])
+            } else {
+                0
+            };
             let id = rng.pick(&[0xF190, 0xF201, 0xF201, 0x90F1]);
-            Record::Value { id, error, bytes: rng.bytes(length) }
+            let bytes = rng.bytes(length);
+            Record::Value { id, error, bytes }
         }
+    }
+}
+
+fn request(rng: &mut Rng, run: &Run, now: &mut u64) -> Request {
+    let frame = frames::frame(rng, &run.server);
+    let dst = rng.pick(&[16, 16, 16, 2015, 17]);
+    // Enough clients to fill the table with the one identifier that can be subscribed to.
+    let many = rng.chance(30);
+    let src = if many {
+        rng.below(24) as u32
+    } else {
+        states::client(rng)
+    };
+    let time = time(rng, run, now);
+    Request {
+        time,
+        src,
+        dst,
+        frame,
     }
 }
 
@@ -70,7 +93,12 @@ fn time(rng: &mut Rng, run: &Run, now: &mut u64) -> u64 {
 /// A record that is cut, unknown or of a length that does not suit its kind.
 fn bad(rng: &mut Rng) -> Vec<u8> {
     let record = |kind: u16, body: &[u8]| {
-        [&(body.len() as u16).to_le_bytes()[..], &kind.to_le_bytes(), body].concat()
+        [
+            &(body.len() as u16).to_le_bytes()[..],
+            &kind.to_le_bytes(),
+            body,
+        ]
+        .concat()
     };
     let zeros = [0; 64];
     match rng.below(8) {
@@ -79,7 +107,10 @@ fn bad(rng: &mut Rng) -> Vec<u8> {
             let whole = record(rng.pick(&[1, 2, 3, 4]), &zeros[..16]);
             whole[..4 + rng.below(16)].to_vec()
         }
-        2 => record(rng.pick(&[0, 5, 6, 7, 256, 65_535]), &zeros[..rng.below(20)]),
+        2 => record(
+            rng.pick(&[0, 5, 6, 7, 256, 65_535]),
+            &zeros[..rng.below(20)],
+        ),
         3 => record(1, &zeros[..rng.pick(&[0, 8, 15])]),
         4 => record(2, &zeros[..rng.pick(&[0, 7, 9])]),
         5 => record(3, &[]),
@@ -89,7 +120,12 @@ fn bad(rng: &mut Rng) -> Vec<u8> {
 
 /// Past the 65,536 bytes that are read; the last record read may be cut or end there.
 fn overlong(rng: &mut Rng, bytes: &mut Vec<u8>) {
-    let body = |length: usize| Record::Outcome(Outcome { error: 0, bytes: vec![7; length] });
+    let body = |length: usize| {
+        Record::Outcome(Outcome {
+            error: 0,
+            bytes: vec![7; length],
+        })
+    };
     let left = trace::MAX_TRACE - bytes.len();
     if left > 10 {
         bytes.extend(trace::bytes(&body(left - 5 - rng.below(2))));

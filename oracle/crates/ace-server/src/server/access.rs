@@ -28,7 +28,8 @@ pub struct Snapshot {
 
 fn bounded<T: Clone, const N: usize>(items: &[T]) -> Vec<T, N> {
     let mut all = Vec::new();
-    all.extend_from_slice(items).expect("a snapshot keeps the capacities");
+    all.extend_from_slice(items)
+        .expect("a snapshot keeps the capacities");
     all
 }
 
@@ -44,11 +45,27 @@ pub fn snapshot<H: ServerHandler, S: SecurityProvider>(server: &Meter<H, S>) -> 
         seed: server.security.pending_seed.to_vec(),
         seed_level: server.security.pending_level,
         counts: server.security.failed_attempts.to_vec(),
-        locks: server.security.lockout_until.iter().map(|(l, t)| (*l, t.as_micros())).collect(),
-        periodic: entries
-            .map(|e| (e.did, e.client.0, e.interval.as_micros(), e.next_tx.as_micros()))
+        locks: server
+            .security
+            .lockout_until
+            .iter()
+            .map(|(l, t)| (*l, t.as_micros()))
             .collect(),
-        queue: server.outbox.iter().map(|(dst, frame)| (dst.0, frame.to_vec())).collect(),
+        periodic: entries
+            .map(|e| {
+                (
+                    e.did,
+                    e.client.0,
+                    e.interval.as_micros(),
+                    e.next_tx.as_micros(),
+                )
+            })
+            .collect(),
+        queue: server
+            .outbox
+            .iter()
+            .map(|(dst, frame)| (dst.0, frame.to_vec()))
+            .collect(),
     }
 }
 
@@ -58,13 +75,21 @@ pub fn restore<H: ServerHandler, S: SecurityProvider>(server: &mut Meter<H, S>, 
         last_rx: Instant::from_micros(to.last_rx),
         security_level: to.level,
     };
-    server.inbound = if to.functional { AddressMode::Functional } else { AddressMode::Physical };
+    server.inbound = if to.functional {
+        AddressMode::Functional
+    } else {
+        AddressMode::Physical
+    };
     server.pending = to.pending.map(|(dst, sid, deadline)| PendingRequest {
         dst: NodeAddress(dst),
         sid,
         deadline: Instant::from_micros(deadline),
     });
-    let locks: std::vec::Vec<_> = to.locks.iter().map(|(l, t)| (*l, Instant::from_micros(*t))).collect();
+    let locks: std::vec::Vec<_> = to
+        .locks
+        .iter()
+        .map(|(l, t)| (*l, Instant::from_micros(*t)))
+        .collect();
     server.security = SecurityState {
         pending_seed: bounded(&to.seed),
         pending_level: to.seed_level,
@@ -72,9 +97,14 @@ pub fn restore<H: ServerHandler, S: SecurityProvider>(server: &mut Meter<H, S>, 
         lockout_until: bounded(&locks),
     };
     let entries: std::vec::Vec<_> = to.periodic.iter().map(entry).collect();
-    server.periodic = PeriodicState { entries: bounded(&entries) };
-    let queue: std::vec::Vec<_> =
-        to.queue.iter().map(|(dst, frame)| (NodeAddress(*dst), bounded(frame))).collect();
+    server.periodic = PeriodicState {
+        entries: bounded(&entries),
+    };
+    let queue: std::vec::Vec<_> = to
+        .queue
+        .iter()
+        .map(|(dst, frame)| (NodeAddress(*dst), bounded(frame)))
+        .collect();
     server.outbox = bounded(&queue);
 }
 
@@ -88,7 +118,10 @@ fn entry(of: &(u16, u32, u64, u64)) -> PeriodicEntry {
 }
 
 /// The service and session tests that the server makes before a service rule.
-pub fn guard<H: ServerHandler, S: SecurityProvider>(server: &Meter<H, S>, sid: u8) -> Result<(), u8> {
+pub fn guard<H: ServerHandler, S: SecurityProvider>(
+    server: &Meter<H, S>,
+    sid: u8,
+) -> Result<(), u8> {
     server.guard_service(sid)
 }
 

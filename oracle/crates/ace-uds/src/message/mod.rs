@@ -27,6 +27,8 @@ impl<'a> FrameRead<'a> for NegativeResponseCode {
     type Error = UdsError;
 
     fn decode(buf: &mut &'a [u8]) -> Result<Self, UdsError> {
-        buf.first().map(|b| Self(*b)).ok_or(UdsError::Codec(CodecError::Empty))
+        buf.first()
+            .map(|b| Self(*b))
+            .ok_or(UdsError::Codec(CodecError::Empty))
     }
 }
