@@ -80,6 +80,9 @@ impl<'a> Case<'a> {
     pub fn suppressed(&mut self) -> bool {
         let set = self.payload().first().is_some_and(|b| b & 0x80 != 0);
         self.mark_either(set, "suppress bit set", "suppress bit clear");
+        if set && self.s.state.queue.len() == MAX_QUEUE && self.sid() != 0x27 {
+            self.mark("suppressed with a full queue");
+        }
         set
     }
 
@@ -89,6 +92,9 @@ impl<'a> Case<'a> {
         let functional = dst != u32::from(c.physical);
         if functional && dst != u32::from(c.functional) {
             self.hit("address: foreign");
+            if self.r.frame.is_empty() || self.r.frame.len() > MAX_INBOUND {
+                self.hit("order: address before 2");
+            }
             return 0;
         }
         let back = self.r.time < self.s.state.last_rx;
@@ -202,6 +208,7 @@ impl<'a> Case<'a> {
         let result = push(self.s, self.r.src, [&[self.sid() | 0x40], payload].concat());
         if result == 3 {
             self.hit("result 3: positive");
+            self.mark("reply meets a full queue");
         }
         result
     }
@@ -216,6 +223,9 @@ impl<'a> Case<'a> {
         if self.s.state.functional {
             if WITHHELD.contains(&code) {
                 self.hit(&format!("functional: {code:02X} dropped"));
+                if self.s.state.queue.len() == MAX_QUEUE {
+                    self.hit("functional: dropped with a full queue");
+                }
                 return 0;
             }
             self.hit("functional: another code sent");

@@ -18,19 +18,15 @@ impl Case<'_> {
             self.mark("no row");
             return Err(0x31);
         };
-        if self
-            .s
-            .config
-            .identifiers
-            .iter()
-            .filter(|r| r.id == id)
-            .count()
-            > 1
-        {
+        let same = |row: &&IdentifierRow| row.id == id;
+        if self.s.config.identifiers.iter().filter(same).count() > 1 {
             self.mark("first of two rows");
         }
         if !list(&row).contains(&session) {
             self.mark("not in this session");
+            if row.level > held {
+                self.mark("31 before 33");
+            }
             return Err(0x31);
         }
         if row.level > 0 && held < row.level {
@@ -51,33 +47,47 @@ impl Case<'_> {
         }
         let mut reply = Vec::new();
         for (nth, pair) in p.chunks(2).enumerate() {
-            let id = u16::from_be_bytes([pair[0], pair[1]]);
-            if let Err(code) = self.allowed(id, |row| &row.readable) {
-                self.later(nth);
-                return self.negative(code);
-            }
-            reply.extend_from_slice(pair);
-            if reply.len() > MAX_FRAME {
-                self.mark("identifier past 256");
-                return self.negative(0x14);
-            }
-            self.note_value(id);
-            match self.v.read(id) {
-                Err(code) => {
-                    self.later(nth);
-                    return self.error(code);
-                }
-                Ok(bytes) => reply.extend_from_slice(bytes),
-            }
-            if reply.len() > MAX_FRAME {
-                self.mark("value past 256");
-                return self.negative(0x14);
+            if let Err(result) = self.read_one(nth, [pair[0], pair[1]], &mut reply) {
+                return result;
             }
         }
         if p.len() > 2 {
             self.mark("several identifiers");
         }
         self.positive(&reply)
+    }
+
+    /// Adds an identifier and its value to the reply, or gives the result of the refusal.
+    fn read_one(&mut self, nth: usize, pair: [u8; 2], reply: &mut Vec<u8>) -> Result<(), u8> {
+        let id = u16::from_be_bytes(pair);
+        if let Err(code) = self.allowed(id, |row| &row.readable) {
+            self.later(nth);
+            return Err(self.negative(code));
+        }
+        reply.extend_from_slice(&pair);
+        if reply.len() > MAX_FRAME {
+            self.mark("identifier past 256");
+            if self.v.read(id).is_err() {
+                self.mark("14 before the value's error");
+            }
+            return Err(self.negative(0x14));
+        }
+        self.note_value(id);
+        match self.v.read(id) {
+            Err(code) => {
+                self.later(nth);
+                return Err(self.error(code));
+            }
+            Ok(bytes) => reply.extend_from_slice(bytes),
+        }
+        if reply.len() > MAX_FRAME {
+            self.mark("value past 256");
+            if self.payload().len() > 2 * nth + 2 {
+                self.mark("14 before the next identifier");
+            }
+            return Err(self.negative(0x14));
+        }
+        Ok(())
     }
 
     fn later(&mut self, nth: usize) {

@@ -31,6 +31,9 @@ impl Rules {
         if let Some(fault) = fault(s) {
             self.hits.hit(&format!("result 10: {fault}"));
             self.hits.hit(&format!("result 10: {call}"));
+            if time > MAX_TIME {
+                self.hits.hit("order: 10 before 6");
+            }
             return Some(10);
         }
         if time == MAX_TIME {
@@ -41,6 +44,13 @@ impl Rules {
             return Some(6);
         }
         None
+    }
+
+    /// A call refused early that a later test would have refused too, or let pass.
+    fn note_order(&mut self, result: u8, later: &[(&str, bool)]) {
+        for (test, _) in later.iter().filter(|(_, there)| *there) {
+            self.hits.hit(&format!("order: {result} before {test}"));
+        }
     }
 
     fn at_limits(&mut self, c: &Config) {
@@ -88,6 +98,10 @@ impl Engine for Rules {
 
     fn request(&mut self, s: &mut Server, v: &Values, r: &Request, o: &Outcome) -> Answer {
         if let Some(result) = self.refused("request", s, r.time) {
+            let own = [s.config.physical, s.config.functional].map(u32::from);
+            let ours = own.contains(&r.dst);
+            let busy = ours && s.state.pending.is_some();
+            self.note_order(result, &[("the address", !ours), ("busy", busy)]);
             return Answer::of(result);
         }
         let mut case = Case::new(s, v, r, o, &mut self.hits);
@@ -130,21 +144,31 @@ impl Engine for Rules {
 
     fn complete(&mut self, s: &mut Server, time: u64, bytes: &[u8]) -> Answer {
         match self.refused("complete", s, time) {
-            Some(result) => Answer::of(result),
+            Some(result) => {
+                self.note_order(result, &[("1", s.state.pending.is_none())]);
+                Answer::of(result)
+            }
             None => Answer::of(tick::complete(s, bytes, &mut self.hits)),
         }
     }
 
     fn fail(&mut self, s: &mut Server, time: u64, code: u8) -> Answer {
         match self.refused("fail", s, time) {
-            Some(result) => Answer::of(result),
+            Some(result) => {
+                self.note_order(result, &[("1", s.state.pending.is_none())]);
+                Answer::of(result)
+            }
             None => Answer::of(tick::fail(s, code, &mut self.hits)),
         }
     }
 
     fn drain(&mut self, s: &mut Server, buffer: &mut [u8]) -> (u8, usize) {
         match self.refused("drain", s, 0) {
-            Some(result) => (result, 0),
+            Some(result) => {
+                let short = numbers::records(&s.state.queue).len() > buffer.len();
+                self.note_order(result, &[("5", short)]);
+                (result, 0)
+            }
             None => tick::drain(s, buffer, &mut self.hits),
         }
     }

@@ -41,6 +41,9 @@ impl Case<'_> {
             .cloned();
         let Some(row) = row else {
             self.mark_either(nth > 0, "unreadable after a good one", "unreadable");
+            if self.s.state.periodic.len() == MAX_PERIODIC {
+                self.mark("unreadable before a full table");
+            }
             return Err(self.negative(0x31));
         };
         if row.level > self.s.state.level {

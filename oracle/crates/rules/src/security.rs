@@ -58,6 +58,9 @@ impl Case<'_> {
 
     fn seed(&mut self, level: u8) -> u8 {
         if self.locked(level) {
+            if self.level_row(level).is_none() {
+                self.mark("lock before unknown level");
+            }
             return self.negative(0x37);
         }
         let Some(row) = self.level_row(level) else {
@@ -96,16 +99,20 @@ impl Case<'_> {
     fn key(&mut self, kind: u8) -> u8 {
         let level = kind - 1;
         let key = self.payload().len() - 1;
+        let row = self.level_row(level);
+        let other = self.s.state.seed_level != level;
+        let unasked = other || self.s.state.seed.is_empty();
         if self.locked(level) {
+            self.mark_either(unasked, "lock before sequence", "lock before the key");
             return self.negative(0x37);
         }
-        let s = &self.s.state;
-        if s.seed_level != level || s.seed.is_empty() {
-            let other = s.seed_level != level;
+        if unasked {
             self.mark_either(other, "level not pending", "seed empty");
+            if row.is_some_and(|row| row.key != key as u64) {
+                self.mark("sequence before key length");
+            }
             return self.negative(0x24);
         }
-        let row = self.level_row(level);
         match &row {
             Some(row) if key as u64 != row.key => {
                 self.mark_either((key as u64) < row.key, "key too short", "key too long");

@@ -18,8 +18,18 @@ fn stand(time: u64, moment: u64) -> &'static str {
 }
 
 pub fn tick(s: &mut Server, v: &Values, time: u64, hits: &mut Hits) -> Answer {
+    let (session, deadline) = (
+        s.state.session,
+        s.state.pending.as_ref().map(|p| p.deadline),
+    );
     expire(s, time, hits);
+    if session != s.state.session && deadline.is_some_and(|d| time >= d) {
+        hits.hit("deadline: P2* of session 1 after S3");
+    }
     if refresh(s, time, hits) == 3 {
+        if s.state.periodic.iter().any(|e| time >= e.next) {
+            hits.hit("result 3: the refresh before what is due");
+        }
         return Answer::of(3);
     }
     send_due(s, v, time, hits)

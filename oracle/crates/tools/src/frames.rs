@@ -209,10 +209,10 @@ pub fn outcome(rng: &mut Rng, s: &Server, frame: &[u8]) -> Outcome {
     let kind = frame.get(1).map_or(0, |b| b & 0x7F);
     let sid = frame.first().copied().unwrap_or(0);
     let refusing = if sid == 0x27 && kind % 2 == 0 { 45 } else { 20 };
-    let error = if rng.chance(refusing) {
-        rng.pick(&ERRORS)
-    } else {
-        0
+    let error = match rng.below(100) {
+        n if n >= refusing => 0,
+        n if n % 5 == 0 => rng.byte(),
+        _ => rng.pick(&ERRORS),
     };
     let asked = s
         .config

@@ -11,7 +11,7 @@ const CLIENT: u32 = 3712;
 
 impl Maker {
     pub fn scene(&mut self) {
-        match self.rng.below(8) {
+        match self.rng.below(9) {
             0 => self.key_at_a_lock(),
             1 => self.full_table(),
             2 => self.due_values(),
@@ -19,6 +19,7 @@ impl Maker {
             4 => self.held_level(),
             5 => self.busy(),
             6 => self.session_without_a_row(),
+            7 => self.reads_up_to_the_limit(),
             _ => self.second_seed(),
         }
     }
@@ -244,6 +245,40 @@ impl Maker {
             start,
             length,
         }));
+    }
+
+    /// A first value that nearly fills the reply, then identifiers that cross the limit, read or fail.
+    fn reads_up_to_the_limit(&mut self) {
+        let rows = &self.player.server.config.identifiers;
+        let Some(session) = rows.first().and_then(|row| row.readable.first().copied()) else {
+            return;
+        };
+        let readable = rows.iter().filter(|row| row.readable.contains(&session));
+        let ids: Vec<u16> = readable.map(|row| row.id).collect();
+        self.stand(session, 255);
+        let first = ids[0];
+        let length = self.rng.pick(&[250, 251, 252, 253, 254]);
+        self.add(Line::Values);
+        let pool = self.rng.bytes(256);
+        self.add(Line::Pool(pool));
+        self.add(Line::Row(ValueRow {
+            id: first,
+            error: 0,
+            start: 1,
+            length,
+        }));
+        let second = self.rng.pick(&ids);
+        let error = self.rng.pick(&[0, 0, 0x31, 0x78]);
+        self.add(Line::Row(ValueRow {
+            id: second,
+            error,
+            start: 0,
+            length: 1,
+        }));
+        let third = self.rng.pick(&[second, first, 0xFFFE]);
+        let frame = [first, second, third].map(u16::to_be_bytes).concat();
+        let outcome = self.outcome(0);
+        self.ask(self.now, [vec![0x22], frame].concat(), outcome);
     }
 
     /// A slow act in a session that services name and that has no row: the default P2* serves.
