@@ -18,14 +18,16 @@ pub fn print_trace(seed: u64, number: u64) -> Result<(), String> {
         .map_err(|e| e.to_string())
 }
 
-/// What a command and the name of a form print on an input. A command that fails has printed what it has
-/// printed; its exit status is a last line, so that two commands that end differently differ.
+/// What a command prints on an input. The name of the form is its last argument, unless the command begins
+/// with `=`. A command that fails has printed what it has printed; its failure is a last line, so that two
+/// commands that end differently differ.
 pub fn run(command: &str, form: &str, input: &[u8]) -> Result<String, String> {
-    let mut words = command.split(' ');
-    let program = words.next().unwrap_or_default();
-    let mut child = Command::new(program)
-        .args(words)
-        .arg(form)
+    let mut words: Vec<&str> = command.trim_start_matches('=').split(' ').collect();
+    if !command.starts_with('=') {
+        words.push(form);
+    }
+    let mut child = Command::new(words[0])
+        .args(&words[1..])
         .stdin(Stdio::piped())
         .stdout(Stdio::piped())
         .stderr(Stdio::null())

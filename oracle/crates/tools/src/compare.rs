@@ -8,11 +8,14 @@ use form::{print, trace};
 use rules::Rules;
 
 use crate::batch::run;
-use crate::shrink::{Shrinker, simpler_line, simpler_record};
+use crate::shrink::{MOST_RUNS, Shrinker, simpler_line, simpler_record};
 use crate::{scripts, traces};
 
 /// Scripts given to one run of a command; each begins afresh, so they can stand in one input.
 const BATCH: u64 = 200;
+
+/// Enough to show that a known fault shrinks, in a run that has many of them.
+const FEW_RUNS: usize = 200;
 
 const CALLS: [&str; 7] = [
     "fresh", "request", "question", "tick", "complete", "fail", "drain",
@@ -75,7 +78,12 @@ fn text(lines: &[String]) -> String {
     lines.iter().map(|line| format!("{line}\n")).collect()
 }
 
-fn shrink_script(lines: Vec<String>, a: &str, b: &str) -> Result<Difference, String> {
+fn shrink_script(
+    lines: Vec<String>,
+    a: &str,
+    b: &str,
+    most_runs: usize,
+) -> Result<Difference, String> {
     let shows = |lines: &[String]| {
         well_formed(lines) && differ("script", text(lines).as_bytes(), a, b).unwrap_or(false)
     };
@@ -83,6 +91,7 @@ fn shrink_script(lines: Vec<String>, a: &str, b: &str) -> Result<Difference, Str
     let small = Shrinker {
         shows: &mut { shows },
         simpler: &simpler,
+        most_runs,
     }
     .shrink(lines);
     let input = text(&small);
@@ -129,6 +138,7 @@ fn shrink_trace(bytes: &[u8], a: &str, b: &str) -> Result<Difference, String> {
     let small = Shrinker {
         shows: &mut { shows },
         simpler: &simpler,
+        most_runs: MOST_RUNS,
     }
     .shrink(records(bytes));
     let first = first_difference("trace", &small.concat(), a, b)?;
@@ -148,7 +158,7 @@ pub fn scripts(seed: u64, count: u64, a: &str, b: &str) -> Result<String, String
     for from in (0..count).step_by(BATCH as usize) {
         match batch(seed, from, (from + BATCH).min(count), a, b)? {
             Ok(calls) => total += calls,
-            Err(script) => return Err(shrink_script(script, a, b)?.seen),
+            Err(script) => return Err(shrink_script(script, a, b, MOST_RUNS)?.seen),
         }
     }
     Ok(format!("{count} scripts, {total} calls, no difference"))
@@ -174,7 +184,8 @@ pub fn file(form: &str, path: &str, a: &str, b: &str) -> Result<(), String> {
         return Err(shrink_trace(&input, a, b)?.seen);
     }
     let text = String::from_utf8(input).map_err(|e| e.to_string())?;
-    Err(shrink_script(text.lines().map(str::to_string).collect(), a, b)?.seen)
+    let lines = text.lines().map(str::to_string).collect();
+    Err(shrink_script(lines, a, b, MOST_RUNS)?.seen)
 }
 
 /// For a command that is known to be wrong: says how soon that showed and how small it became.
@@ -184,7 +195,7 @@ pub fn expect_difference(seed: u64, count: u64, a: &str, b: &str) -> Result<(), 
         let to = (from + BATCH).min(count);
         if let Err(script) = batch(seed, from, to, a, b)? {
             let before = script.len();
-            let found = shrink_script(script, a, b)?;
+            let found = shrink_script(script, a, b, FEW_RUNS)?;
             let ms = start.elapsed().as_millis();
             println!(
                 "found within {to} scripts, {before} lines shrunk to {} ({ms} ms)",
@@ -205,7 +216,7 @@ pub fn soak(seconds: u64, seed: u64, a: &str, b: &str) -> Result<(), String> {
         let now = seed + rounds;
         match batch(now, 0, BATCH, a, b)? {
             Ok(calls) => script_calls += calls,
-            Err(script) => return Err(shrink_script(script, a, b)?.seen),
+            Err(script) => return Err(shrink_script(script, a, b, MOST_RUNS)?.seen),
         }
         traces(now, 20, a, b)?;
         rounds += 1;

@@ -9,7 +9,7 @@ use rules::Hits;
 
 use crate::batch::run;
 use crate::report::{of_script, of_trace};
-use crate::shrink::Shrinker;
+use crate::shrink::{MOST_RUNS, Shrinker};
 use crate::{scripts, traces};
 
 /// What a file of its own is taken to cost: few larger traces are easier to keep than many small ones.
@@ -75,6 +75,7 @@ fn choose_scripts(seed: u64, count: u64) -> String {
         let mut shrinker = Shrinker {
             shows: &mut shows,
             simpler: &|_| Vec::new(),
+            most_runs: MOST_RUNS,
         };
         text.push_str(&scripts::text(
             &shrinker.shrink(scripts::script(seed, number)),

@@ -1,13 +1,14 @@
 //! Makes a failing input smaller: first by leaving out items, then by making each item simpler.
 
 /// Runs allowed for one input, so that a slow command cannot hold the comparer for ever.
-const MOST_RUNS: usize = 2000;
+pub const MOST_RUNS: usize = 2000;
 
 pub struct Shrinker<'a, T> {
     /// Whether an input still shows what is looked for.
     pub shows: &'a mut dyn FnMut(&[T]) -> bool,
     /// Simpler forms of one item, the simplest first.
     pub simpler: &'a dyn Fn(&T) -> Vec<T>,
+    pub most_runs: usize,
 }
 
 impl<T: Clone + PartialEq> Shrinker<'_, T> {
@@ -18,7 +19,7 @@ impl<T: Clone + PartialEq> Shrinker<'_, T> {
             let before = items.clone();
             items = self.leave_out(items, &mut runs);
             items = self.simplify(items, &mut runs);
-            if items == before || runs >= MOST_RUNS {
+            if items == before || runs >= self.most_runs {
                 return items;
             }
         }
@@ -26,7 +27,7 @@ impl<T: Clone + PartialEq> Shrinker<'_, T> {
 
     fn try_it(&mut self, items: &[T], runs: &mut usize) -> bool {
         *runs += 1;
-        *runs <= MOST_RUNS && (self.shows)(items)
+        *runs <= self.most_runs && (self.shows)(items)
     }
 
     /// Leaves out runs of items, from halves down to single ones.
@@ -153,6 +154,7 @@ mod tests {
         let small = Shrinker {
             shows: &mut shows,
             simpler: &simpler,
+            most_runs: MOST_RUNS,
         }
         .shrink(lines);
         assert_eq!(small, ["tick 0", "tick 1234"]);
@@ -166,6 +168,7 @@ mod tests {
         let small = Shrinker {
             shows: &mut shows,
             simpler: &simpler,
+            most_runs: MOST_RUNS,
         }
         .shrink(line);
         assert_eq!(small, ["pool 7F"]);
