@@ -14,9 +14,6 @@ use crate::{scripts, traces};
 /// Scripts given to one run of a command; each begins afresh, so they can stand in one input.
 const BATCH: u64 = 200;
 
-/// Enough to show that a known fault shrinks, in a run that has many of them.
-const FEW_RUNS: usize = 200;
-
 const CALLS: [&str; 7] = [
     "fresh", "request", "question", "tick", "complete", "fail", "drain",
 ];
@@ -188,19 +185,22 @@ pub fn file(form: &str, path: &str, a: &str, b: &str) -> Result<(), String> {
     Err(shrink_script(lines, a, b, MOST_RUNS)?.seen)
 }
 
-/// For a command that is known to be wrong: says how soon that showed and how small it became.
-pub fn expect_difference(seed: u64, count: u64, a: &str, b: &str) -> Result<(), String> {
+/// For a command that is known to be wrong: says how soon that showed and how small it became in so many runs.
+pub fn expect_difference(
+    seed: u64,
+    count: u64,
+    runs: usize,
+    a: &str,
+    b: &str,
+) -> Result<(), String> {
     let start = Instant::now();
     for from in (0..count).step_by(BATCH as usize) {
         let to = (from + BATCH).min(count);
         if let Err(script) = batch(seed, from, to, a, b)? {
             let before = script.len();
-            let found = shrink_script(script, a, b, FEW_RUNS)?;
-            let ms = start.elapsed().as_millis();
-            println!(
-                "found within {to} scripts, {before} lines shrunk to {} ({ms} ms)",
-                found.lines
-            );
+            let found = shrink_script(script, a, b, runs)?;
+            let (after, ms) = (found.lines, start.elapsed().as_millis());
+            println!("found within {to} scripts, {before} lines shrunk to {after} ({ms} ms)");
             println!("{}", found.seen);
             return Ok(());
         }

@@ -21,7 +21,7 @@ oracle branches SEED SCRIPTS TRACES    how often each branch is reached; fails i
 oracle compare script SEED COUNT A B   runs the commands A and B on scripts; fails at a difference, shrunk
 oracle compare trace SEED COUNT A B    the same on traces
 oracle compare file FORM PATH A B      the same on one file
-oracle expect-difference SEED COUNT A B  the other way round: fails where scripts and traces show none
+oracle expect-difference SEED COUNT RUNS A B  the other way round: fails where scripts show none; RUNS to shrink it
 oracle soak SECONDS SEED A B           compares scripts and traces until the time is over
 oracle sample SEED SCRIPTS TRACES DIR COMMAND  chooses a small set that reaches every branch
 oracle replay DIR COMMAND              whether COMMAND gives the answers stored in DIR
@@ -54,8 +54,8 @@ fn run(words: &[&str]) -> Result<(), String> {
             compare::traces(number(seed)?, number(count)?, a, b).map(|line| println!("{line}"))
         }
         ["compare", "file", form, path, a, b] => compare::file(form, path, a, b),
-        ["expect-difference", seed, count, a, b] => {
-            compare::expect_difference(number(seed)?, number(count)?, a, b)
+        ["expect-difference", seed, count, runs, a, b] => {
+            compare::expect_difference(number(seed)?, number(count)?, number(runs)?, a, b)
         }
         ["soak", seconds, seed, a, b] => compare::soak(number(seconds)?, number(seed)?, a, b),
         ["sample", seed, scripts, traces, dir, command] => sample::choose(
