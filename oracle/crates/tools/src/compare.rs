@@ -14,6 +14,9 @@ use crate::{scripts, traces};
 /// Scripts given to one run of a command; each begins afresh, so they can stand in one input.
 const BATCH: u64 = 200;
 
+/// The same where a difference is expected soon.
+const SMALL_BATCH: u64 = 40;
+
 const CALLS: [&str; 7] = [
     "fresh", "request", "question", "tick", "complete", "fail", "drain",
 ];
@@ -194,8 +197,8 @@ pub fn expect_difference(
     b: &str,
 ) -> Result<(), String> {
     let start = Instant::now();
-    for from in (0..count).step_by(BATCH as usize) {
-        let to = (from + BATCH).min(count);
+    for from in (0..count).step_by(SMALL_BATCH as usize) {
+        let to = (from + SMALL_BATCH).min(count);
         if let Err(script) = batch(seed, from, to, a, b)? {
             let before = script.len();
             let found = shrink_script(script, a, b, runs)?;
