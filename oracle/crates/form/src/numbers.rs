@@ -73,9 +73,9 @@ pub fn state_fault(s: &State) -> Option<&'static str> {
             s.pending.as_ref().is_some_and(|p| late(p.deadline)),
         ),
         ("lock", s.locks.iter().any(|(_, t)| late(*t))),
-        ("next", s.periodic.iter().any(|e| late(e.next))),
+        ("subscription", s.periodic.iter().any(|e| late(e.next))),
         (
-            "interval",
+            "subscription",
             s.periodic.iter().any(|e| e.interval >= MAX_SPAN),
         ),
     ];
@@ -105,4 +105,101 @@ pub fn records(queue: &[(u32, Vec<u8>)]) -> Vec<u8> {
         out.extend_from_slice(frame);
     }
     out
+}
+
+#[cfg(test)]
+mod tests {
+    use super::*;
+    use crate::trace::fixed_config;
+    use crate::types::{Entry, Pending};
+
+    /// A change to the limit is taken, one past it is not.
+    fn config_limit(name: &str, at: u64, set: impl Fn(&mut Config, u64)) {
+        let mut c = fixed_config();
+        set(&mut c, at);
+        assert_eq!(config_fault(&c), None, "{name} at {at}");
+        set(&mut c, at + 1);
+        assert_eq!(config_fault(&c), Some(name), "{name} past {at}");
+    }
+
+    #[test]
+    fn each_number_of_a_configuration_has_its_limit() {
+        let span = MAX_SPAN - 1;
+        let list = |n: u64| vec![1; n as usize];
+        config_limit("sessions", 8, |c, n| {
+            c.sessions.resize(n as usize, c.sessions[0].clone())
+        });
+        config_limit("services", 24, |c, n| {
+            c.services.resize(n as usize, c.services[0].clone())
+        });
+        config_limit("identifiers", 128, |c, n| {
+            c.identifiers.resize(n as usize, c.identifiers[0].clone())
+        });
+        config_limit("levels", 8, |c, n| {
+            c.levels.resize(n as usize, c.levels[0].clone())
+        });
+        config_limit("span", span, |c, n| c.sessions[1].p2 = n);
+        config_limit("span", span, |c, n| c.sessions[1].p2_star = n);
+        config_limit("span", span, |c, n| c.sessions[1].s3 = n);
+        config_limit("span", span, |c, n| c.identifiers[1].minimum = n);
+        config_limit("span", span, |c, n| c.levels[0].lockout = n);
+        config_limit("list", 8, |c, n| c.services[3].sessions = list(n));
+        config_limit("list", 8, |c, n| c.identifiers[1].readable = list(n));
+        config_limit("list", 8, |c, n| c.identifiers[1].writable = list(n));
+        config_limit("seed or key", 32, |c, n| c.levels[0].seed = n);
+        config_limit("seed or key", 32, |c, n| c.levels[0].key = n);
+    }
+
+    fn state_limit(name: &str, at: u64, set: impl Fn(&mut State, u64)) {
+        let mut s = State::fresh();
+        set(&mut s, at);
+        assert_eq!(state_fault(&s), None, "{name} at {at}");
+        set(&mut s, at + 1);
+        assert_eq!(state_fault(&s), Some(name), "{name} past {at}");
+    }
+
+    #[test]
+    fn each_number_of_a_state_has_its_limit() {
+        let latest = MAX_TIME + MAX_SPAN;
+        let entry = |interval, next| {
+            let (id, client) = (0xF201, 1);
+            vec![Entry {
+                id,
+                client,
+                interval,
+                next,
+            }]
+        };
+        let pending = |deadline| {
+            Some(Pending {
+                dst: 1,
+                sid: 1,
+                deadline,
+            })
+        };
+        state_limit("last_rx", latest, |s, n| s.last_rx = n);
+        state_limit("deadline", latest, |s, n| s.pending = pending(n));
+        state_limit("lock", latest, |s, n| s.locks = vec![(3, n)]);
+        state_limit("subscription", latest, |s, n| s.periodic = entry(50, n));
+        state_limit("subscription", MAX_SPAN - 1, |s, n| {
+            s.periodic = entry(n, 50)
+        });
+        state_limit("length", 32, |s, n| s.seed = vec![0; n as usize]);
+        state_limit("length", 256, |s, n| {
+            s.queue = vec![(1, vec![0; n as usize])]
+        });
+        state_limit("count", 16, |s, n| s.queue = vec![(1, vec![0]); n as usize]);
+        state_limit("count", 16, |s, n| {
+            s.periodic = vec![entry(1, 1)[0].clone(); n as usize]
+        });
+        state_limit("count", 8, |s, n| s.counts = vec![(1, 1); n as usize]);
+        state_limit("count", 8, |s, n| s.locks = vec![(1, 1); n as usize]);
+    }
+
+    #[test]
+    fn an_empty_frame_does_not_wait() {
+        let mut s = State::fresh();
+        s.queue = vec![(1, vec![])];
+        assert_eq!(state_fault(&s), Some("empty frame"));
+    }
 }

@@ -55,7 +55,7 @@ const NAMES: &[(&str, &str)] = &[
     ("result 10: ", "request|question|tick|complete|fail|drain"),
     (
         "result 10: ",
-        "configuration|empty frame|last_rx|deadline|lock|next|interval",
+        "configuration|empty frame|last_rx|deadline|lock|subscription",
     ),
     ("result 6: ", "request|question|tick|complete|fail"),
     ("time 2^48: ", "request|question|tick|complete|fail"),

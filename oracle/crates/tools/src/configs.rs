@@ -204,7 +204,7 @@ fn break_a_number(rng: &mut Rng, c: &mut Config) {
             },
         ),
         _ => {
-            let (seed, key) = rng.pick(&[(33, 4), (4, 33), (256, 4), (4, u64::MAX)]);
+            let (seed, key) = rng.pick(&[(33, 4), (4, 33), (256, 4), (4, 0xFFFF_FFFF)]);
             c.levels.insert(
                 0,
                 LevelRow {

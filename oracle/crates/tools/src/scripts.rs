@@ -61,15 +61,10 @@ impl Maker {
     }
 
     fn begin(&mut self) {
-        let mut c = configs::config(&mut self.rng);
-        let hold = self.rng.chance(55);
-        if hold {
-            // More rows than there is room for can only be offered, not held.
-            c.sessions.truncate(8);
-            c.services.truncate(24);
-            c.identifiers.truncate(128);
-            c.levels.truncate(8);
-        }
+        let c = configs::config(&mut self.rng);
+        // Rows that a server with narrower types could not hold are only offered to `fresh`.
+        let fault = form::numbers::config_fault(&c);
+        let hold = self.rng.chance(55) && matches!(fault, None | Some("seed or key"));
         for line in rows(&c) {
             self.add(line);
         }

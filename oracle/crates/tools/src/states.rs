@@ -130,8 +130,7 @@ fn queue(rng: &mut Rng) -> Vec<Line> {
 fn damage(rng: &mut Rng, lines: &mut Vec<Line>) {
     let limit = LATEST + (1 << 32);
     let late = rng.pick(&[limit, limit + 1, limit + 1, (1 << 54) + 1, u64::MAX]);
-    let long = rng.pick(&[(1 << 32) - 1, 1 << 32, u64::MAX]);
-    let line = match rng.below(6) {
+    let line = match rng.below(5) {
         0 => Line::Queued(3712, vec![]),
         1 => Line::State {
             session: 1,
@@ -145,11 +144,11 @@ fn damage(rng: &mut Rng, lines: &mut Vec<Line>) {
             deadline: late,
         }),
         3 => Line::Lock(3, late),
-        part => Line::Periodic(Entry {
+        _ => Line::Periodic(Entry {
             id: 0xF201,
             client: 3712,
-            interval: if part == 4 { 50 } else { long },
-            next: if part == 4 { late } else { 0 },
+            interval: (1 << 32) - 1,
+            next: late,
         }),
     };
     if has_room(lines, &line) {
