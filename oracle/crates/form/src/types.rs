@@ -198,3 +198,53 @@ pub trait Engine {
     /// Result and number of frames written.
     fn drain(&mut self, s: &mut Server, buffer: &mut [u8]) -> (u8, usize);
 }
+
+#[cfg(test)]
+mod tests {
+    use super::*;
+
+    fn read(rows: &[(u16, u8, u64, u64)], pool: usize) -> Result<usize, u8> {
+        let row = |&(id, error, start, length): &(u16, u8, u64, u64)| ValueRow {
+            id,
+            error,
+            start,
+            length,
+        };
+        let table = Values {
+            rows: rows.iter().map(row).collect(),
+            pool: vec![7; pool],
+        };
+        table.read(5).map(<[u8]>::len)
+    }
+
+    #[test]
+    fn the_first_row_within_the_pool_is_read() {
+        assert_eq!(read(&[(5, 0, 0, 256)], 256), Ok(256));
+        assert_eq!(read(&[(4, 0, 0, 1), (5, 0, 2, 3), (5, 0, 0, 1)], 5), Ok(3));
+        assert_eq!(read(&[(5, 0, 5, 0)], 5), Ok(0));
+        assert_eq!(read(&[(5, 0x78, 0, 5)], 5), Err(0x78));
+    }
+
+    #[test]
+    fn all_other_rows_read_as_22() {
+        assert_eq!(read(&[(4, 0, 0, 1)], 5), Err(0x22));
+        assert_eq!(read(&[(5, 0, 0, 257)], 300), Err(0x22));
+        assert_eq!(read(&[(5, 0, 3, 3)], 5), Err(0x22));
+        assert_eq!(read(&[(5, 0, 6, 0)], 5), Err(0x22));
+        assert_eq!(read(&[(5, 0x78, 3, 3)], 5), Err(0x22));
+        assert_eq!(read(&[(5, 0x78, 0, 257)], 300), Err(0x22));
+    }
+
+    #[test]
+    fn an_act_gives_at_most_256_bytes_and_34_at_most_64() {
+        let met = |act, error, length: usize| {
+            let bytes = vec![0; length];
+            Outcome { error, bytes }.limited(act).map(<[u8]>::len)
+        };
+        assert_eq!(met(0x31, 0, 256), Ok(256));
+        assert_eq!(met(0x31, 0, 257), Err(0x22));
+        assert_eq!(met(0x34, 0, 64), Ok(64));
+        assert_eq!(met(0x34, 0, 65), Err(0x22));
+        assert_eq!(met(0x31, 0x78, 300), Err(0x78));
+    }
+}
