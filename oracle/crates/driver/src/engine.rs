@@ -188,12 +188,10 @@ impl Engine for Beside {
         };
         let answer = aside.request(&mut s.clone(), v, r, &outcome);
         std::mem::swap(&mut aside.lists, &mut self.lists);
+        // A question is refused where its request is, by 2 too; what the reply would meet does not concern it.
+        let told = [PANICKED, 2].contains(&answer.result);
         Answer {
-            result: if answer.result == PANICKED {
-                PANICKED
-            } else {
-                0
-            },
+            result: if told { answer.result } else { 0 },
             error: 0,
             ..answer
         }

@@ -159,6 +159,7 @@ const NAMES: &[(&str, &str)] = &[
     ),
     ("value: ", "up to the pool's end|within the pool"),
     ("question: act ", "00|11|27|28|2E|2F|31|34|36|37|38"),
+    ("question: result ", "0|2"),
     (
         "3E ",
         "physical|functional|positive|absent|sub-function|suppress bit set|suppress bit clear",

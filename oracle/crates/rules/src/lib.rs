@@ -125,11 +125,12 @@ impl Engine for Rules {
         let mut aside = Hits::default();
         let mut server = s.clone();
         let mut case = Case::new(&mut server, v, r, &outcome, &mut aside);
-        case.request();
+        let result = if case.request() == 2 { 2 } else { 0 };
         let act = case.act;
         self.hits.hit(&format!("question: act {:02X}", act.number));
+        self.hits.hit(&format!("question: result {result}"));
         Answer {
-            result: 0,
+            result,
             error: 0,
             act,
         }
