@@ -5,3 +5,4 @@ pub mod config;
 pub mod frame;
 pub mod nrc;
 pub mod table;
+pub mod values;
