@@ -3,3 +3,4 @@ pub mod Lists
 pub mod Tab
 pub mod Within
 pub mod Readings
+pub mod Paste

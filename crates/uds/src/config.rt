@@ -7,6 +7,10 @@ ghost use Rattle.model.specs.Numbers.{maxSessions, maxServices, maxDids, maxLev
 ghost use Rattle.model.specs.Config as Model;
 ghost use Rattle.uds.specs.Table.{rowOf, Finds};
 ghost use Rattle.uds.specs.View.{listAt, sessionAt, serviceAt, didAt, levelAt, sessionCount, serviceCount, didCount, levelCount, configOf, allowed, seedLengthOf, keyLengthOf};
+
+pub mod build;
+pub mod rows;
+
 use super::clock::Duration;
 use super::nrc::DEFAULT_LOCKOUT;
 use super::nrc::DEFAULT_MAX_SECURITY_ATTEMPTS;
