@@ -4,3 +4,7 @@ pub mod Tab
 pub mod Within
 pub mod Readings
 pub mod Paste
+pub mod Kept
+pub mod Grown
+pub mod NewRows
+pub mod Building
