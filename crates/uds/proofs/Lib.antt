@@ -1,10 +1,4 @@
 pub mod Bits
 pub mod Lists
 pub mod Tab
-pub mod Within
 pub mod Readings
-pub mod Paste
-pub mod Kept
-pub mod Grown
-pub mod NewRows
-pub mod Building

@@ -1,6 +1,3 @@
 pub mod Clock
 pub mod Table
-pub mod View
 pub mod Values
-pub mod Rows
-pub mod Build
