@@ -10,13 +10,13 @@ use lib.Dec.{ltb}
 use borrow.Author.Tests.{ltb-true}
 use Rattle.model.specs.Config.{within, sessionWithin, serviceWithin, didWithin, levelWithin}
 use Rattle.model.specs.Config as Model
-use Rattle.config.specs.declared.rows.SessionList.{SessionList}
-use Rattle.config.specs.declared.rows.SessionConfig.{SessionConfig}
-use Rattle.config.specs.declared.rows.ServiceConfig.{ServiceConfig}
-use Rattle.config.specs.declared.rows.DidConfig.{DidConfig}
-use Rattle.config.specs.declared.rows.SecurityLevelConfig.{SecurityLevelConfig}
+use Rattle.uds.specs.declared.rows.SessionList.{SessionList}
+use Rattle.uds.specs.declared.rows.SessionConfig.{SessionConfig}
+use Rattle.uds.specs.declared.rows.ServiceConfig.{ServiceConfig}
+use Rattle.uds.specs.declared.rows.DidConfig.{DidConfig}
+use Rattle.uds.specs.declared.rows.SecurityLevelConfig.{SecurityLevelConfig}
 use Rattle.config.specs.View.{sessionAt, serviceAt, didAt, levelAt, sessionCount, serviceCount, didCount, levelCount, configOf}
-use Rattle.config.specs.Rows.{sessionOf, serviceOf, didOf, levelOf}
+use Rattle.uds.specs.Rows.{sessionOf, serviceOf, didOf, levelOf}
 use Rattle.config.specs.Build.{settled, addSession, addService, addDid, addLevel, listWords, sessionRow, serviceRow, didRow, levelRow}
 use Rattle.uds.proofs.Tab.{tab-length}
 use Rattle.config.proofs.Kept.{left, right, kept, with-session, with-service, with-did, with-level, taken}

@@ -10,7 +10,7 @@ use Rattle.uds.specs.Table.{tab, column}
 use Rattle.config.specs.View.{listAt, sessionAt, serviceAt, didAt, levelAt, sessionCount, serviceCount, didCount, levelCount, configOf}
 use Rattle.config.specs.Build.{addSession, addService, addDid, addLevel}
 use Rattle.uds.proofs.Tab.{tab-same, tab-snoc}
-use Rattle.config.proofs.Paste.{pasted-in, pasted-before, pasted-after}
+use Rattle.uds.proofs.Paste.{pasted-in, pasted-before, pasted-after}
 use Rattle.config.proofs.Kept.{Kept}
 
 -- v is w with one more row at a place and the table's count gone up

@@ -1,5 +1,4 @@
 pub mod Limits
-pub mod Paste
 pub mod Kept
 pub mod Grown
 pub mod NewRows

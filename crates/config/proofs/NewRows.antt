@@ -8,14 +8,14 @@ use lib.ListN.{length, getD}
 use lib.Dec.{leb, ltb}
 use borrow.Author.Tests.{leb-true, ltb-true}
 use Rattle.model.specs.Config.{sessionWithin, serviceWithin, didWithin, levelWithin}
-use Rattle.config.specs.declared.rows.SessionList.{SessionList}
-use Rattle.config.specs.declared.rows.SessionConfig.{SessionConfig}
-use Rattle.config.specs.declared.rows.ServiceConfig.{ServiceConfig}
-use Rattle.config.specs.declared.rows.DidConfig.{DidConfig}
-use Rattle.config.specs.declared.rows.SecurityLevelConfig.{SecurityLevelConfig}
+use Rattle.uds.specs.declared.rows.SessionList.{SessionList}
+use Rattle.uds.specs.declared.rows.SessionConfig.{SessionConfig}
+use Rattle.uds.specs.declared.rows.ServiceConfig.{ServiceConfig}
+use Rattle.uds.specs.declared.rows.DidConfig.{DidConfig}
+use Rattle.uds.specs.declared.rows.SecurityLevelConfig.{SecurityLevelConfig}
 use Rattle.uds.specs.Table.{tab, column}
 use Rattle.config.specs.View.{listAt, sessionAt, serviceAt, didAt, levelAt}
-use Rattle.config.specs.Rows.{entryOf, listOf, sessionOf, serviceOf, didOf, levelOf}
+use Rattle.uds.specs.Rows.{entryOf, listOf, sessionOf, serviceOf, didOf, levelOf}
 use Rattle.config.specs.Build.{low, listWords, sessionRow, serviceRow, didRow, levelRow}
 use Rattle.uds.proofs.Tab.{tab-length, tab-same}
 use Rattle.config.proofs.Kept.{left, right}

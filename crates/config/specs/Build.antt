@@ -4,12 +4,12 @@ use mathlib.Core.List.{List, [], _∷_, _++_}
 use Rattle.model.specs.Tests.{pick}
 use Rattle.model.specs.Config.{SessionConfig, ServiceConfig, DidConfig, SecurityLevelConfig, Config, within}
 use Rattle.uds.specs.Table.{tab}
-use Rattle.config.specs.Rows.{entryOf}
-use Rattle.config.specs.declared.rows.SessionList.{SessionList}
-use Rattle.config.specs.declared.rows.SessionConfig as Session
-use Rattle.config.specs.declared.rows.ServiceConfig as Service
-use Rattle.config.specs.declared.rows.DidConfig as Did
-use Rattle.config.specs.declared.rows.SecurityLevelConfig as Level
+use Rattle.uds.specs.Rows.{entryOf}
+use Rattle.uds.specs.declared.rows.SessionList.{SessionList}
+use Rattle.uds.specs.declared.rows.SessionConfig as Session
+use Rattle.uds.specs.declared.rows.ServiceConfig as Service
+use Rattle.uds.specs.declared.rows.DidConfig as Did
+use Rattle.uds.specs.declared.rows.SecurityLevelConfig as Level
 
 -- addresses and no rows
 abbrev pub bare : ℕ → ℕ → Config

@@ -9,7 +9,7 @@ ghost use lib.ListN.{length, getD, set};
 ghost use lib.Seq.{paste};
 ghost use Rattle.model.specs.Config as Model;
 ghost use Rattle.config.specs.View.{configOf};
-ghost use Rattle.config.specs.Rows.{sessionOf, serviceOf, didOf, levelOf};
+ghost use Rattle.uds.specs.Rows.{sessionOf, serviceOf, didOf, levelOf};
 ghost use Rattle.config.specs.Build.{bare, overfull, settled, addSession, addService, addDid, addLevel, listWords, sessionRow, serviceRow, didRow, levelRow};
 use super::Config;
 use super::DID_WORDS;
@@ -30,12 +30,12 @@ use super::SERVICES;
 use super::SESSION_TYPE;
 use super::SESSION_WORDS;
 use super::SESSIONS;
-use super::rows::DidConfig;
-use super::rows::SecurityLevelConfig;
-use super::rows::ServiceConfig;
-use super::rows::SessionConfig;
-use super::rows::SessionList;
 use super::within;
+use uds::rows::DidConfig;
+use uds::rows::SecurityLevelConfig;
+use uds::rows::ServiceConfig;
+use uds::rows::SessionConfig;
+use uds::rows::SessionList;
 use uds::table::word;
 
 // The low 32 bits of a number: the number itself, where it keeps the limits.

@@ -9,7 +9,6 @@ ghost use Rattle.uds.specs.Table.{rowOf, Finds};
 ghost use Rattle.config.specs.View.{listAt, sessionAt, serviceAt, didAt, levelAt, sessionCount, serviceCount, didCount, levelCount, configOf, allowed, seedLengthOf, keyLengthOf};
 
 pub mod build;
-pub mod rows;
 
 use uds::clock::Duration;
 use uds::nrc::DEFAULT_LOCKOUT;
@@ -17,13 +16,15 @@ use uds::nrc::DEFAULT_MAX_SECURITY_ATTEMPTS;
 use uds::nrc::DEFAULT_P2;
 use uds::nrc::DEFAULT_P2_EXT;
 use uds::nrc::DEFAULT_S3;
+use uds::rows::MAX_LISTED;
+use uds::rows::MAX_SEED;
 use uds::table::Found;
 use uds::table::at_most;
 use uds::table::cell;
 use uds::table::find;
 use uds::table::word;
 
-// How many rows of each kind, entries of a session list, and bytes of a seed or a key there may be.
+// How many rows of each kind there may be.
 pub const MAX_SESSIONS: usize = 8;
 
 pub const MAX_SERVICES: usize = 24;
@@ -31,10 +32,6 @@ pub const MAX_SERVICES: usize = 24;
 pub const MAX_DIDS: usize = 128;
 
 pub const MAX_SECURITY_LEVELS: usize = 8;
-
-pub const MAX_LISTED: u32 = 8;
-
-pub const MAX_SEED: u32 = 32;
 
 // The image: two addresses, four counts, then the rows. A session list is a count and eight entries.
 pub type Config = [u32; 3006];

@@ -3,5 +3,6 @@
 pub mod clock;
 pub mod frame;
 pub mod nrc;
+pub mod rows;
 pub mod table;
 pub mod values;

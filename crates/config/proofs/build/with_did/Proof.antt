@@ -6,7 +6,7 @@ use lib.ListN.{length}
 use borrow.Author.Tests.{not-true, not-false}
 use borrow.Author.Needs.{needs}
 use Rattle.config.specs.Build.{addDid}
-use Rattle.config.specs.Rows.{didOf}
+use Rattle.uds.specs.Rows.{didOf}
 use Rattle.config.specs.View.{configOf}
 use Rattle.config.proofs.Building.{decides-did, did-built, room}
 use Rattle.config.proofs.Kept.{no-room, no-row}

@@ -1,9 +1,9 @@
 -- A list is as long as its count says.
 use borrow.Author.Needs.{needs}
-use Rattle.config.specs.Rows.{entryOf}
+use Rattle.uds.specs.Rows.{entryOf}
 use Rattle.uds.proofs.Tab.{tab-length}
-use Rattle.config.proofs.rows.SessionList.within.Statement.{statement}
-use Rattle.config.proofs.rows.SessionList.within.Tie as tie
+use Rattle.uds.proofs.rows.SessionList.within.Statement.{statement}
+use Rattle.uds.proofs.rows.SessionList.within.Tie as tie
 
 cast-result : tie.Need-cast-result
 cast-result c = search needs

@@ -2,8 +2,8 @@
 use mathlib.Core.Path.{sym, _∙_}
 use borrow.Author.Tests.{not-true, not-false}
 use borrow.Author.Needs.{needs}
-use Rattle.config.proofs.rows.DidConfig.within.Statement.{statement}
-use Rattle.config.proofs.rows.DidConfig.within.Tie as tie
+use Rattle.uds.proofs.rows.DidConfig.within.Statement.{statement}
+use Rattle.uds.proofs.rows.DidConfig.within.Tie as tie
 
 within-requires : tie.Need-within-requires
 within-requires c κs = search needs

@@ -7,10 +7,10 @@ use lib.Seq.{paste, paste-zero}
 use lib.ListN.{length, set, getD, replicate}
 use denote.Ref.{now}
 use borrow.Author.Needs.{needs}
-use Rattle.config.proofs.Paste.{copy-on, copied}
+use Rattle.uds.proofs.Paste.{copy-on, copied}
 use Rattle.uds.proofs.Tab.{tab-length}
-use Rattle.config.proofs.rows.SessionList.of.Statement.{statement}
-use Rattle.config.proofs.rows.SessionList.of.Tie as tie
+use Rattle.uds.proofs.rows.SessionList.of.Statement.{statement}
+use Rattle.uds.proofs.rows.SessionList.of.Tie as tie
 
 abbrev Inv-loop : tie.InvT-loop
 Inv-loop sessions count held₀ i₀ held i = (i ≤ 8) × (i ≤ length sessions) × (count ≡ length sessions) × (held ≡ paste (replicate 8 0) 0 sessions i)

@@ -5,12 +5,12 @@ use mathlib.Core.List.{List, []}
 use lib.ListN.{length, getD}
 use Rattle.model.specs.Numbers.{maxListed, defaultP2, defaultP2Ext, defaultS3}
 use Rattle.model.specs.Config as Model
 use Rattle.uds.specs.Table.{tab}
-use Rattle.config.specs.declared.rows.SessionList.{SessionList}
-use Rattle.config.specs.declared.rows.SessionConfig.{SessionConfig}
-use Rattle.config.specs.declared.rows.ServiceConfig.{ServiceConfig}
-use Rattle.config.specs.declared.rows.DidConfig.{DidConfig}
-use Rattle.config.specs.declared.rows.SecurityLevelConfig.{SecurityLevelConfig}
+use Rattle.uds.specs.declared.rows.SessionList.{SessionList}
+use Rattle.uds.specs.declared.rows.SessionConfig.{SessionConfig}
+use Rattle.uds.specs.declared.rows.ServiceConfig.{ServiceConfig}
+use Rattle.uds.specs.declared.rows.DidConfig.{DidConfig}
+use Rattle.uds.specs.declared.rows.SecurityLevelConfig.{SecurityLevelConfig}
 
 -- as many sessions as the count says: past the eighth they are 0
 abbrev pub entryOf : SessionList → ℕ → ℕ

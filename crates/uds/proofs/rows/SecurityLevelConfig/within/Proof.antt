@@ -1,8 +1,8 @@
 -- The span and the two lengths in turn: the first that fails settles it.
 use borrow.Author.Tests.{lt-ltb, le-ltb, le-leb, lt-leb}
 use borrow.Author.Needs.{needs}
-use Rattle.config.proofs.rows.SecurityLevelConfig.within.Statement.{statement}
-use Rattle.config.proofs.rows.SecurityLevelConfig.within.Tie as tie
+use Rattle.uds.proofs.rows.SecurityLevelConfig.within.Statement.{statement}
+use Rattle.uds.proofs.rows.SecurityLevelConfig.within.Tie as tie
 
 returns : tie.Need-returns
 returns c = rw (le-ltb _ _ (c .if1 .taken))

@@ -5,14 +5,17 @@ ghost use lib.ListN.{length};
 ghost use lib.Dec.{leb};
 ghost use Rattle.model.specs.Numbers.{maxListed};
 ghost use Rattle.model.specs.Config as Model;
-ghost use Rattle.config.specs.Rows.{Lists, listOf, sessionOf, serviceOf, didOf, levelOf, presetSession, DidIs, atLeast, securedBy};
-use super::MAX_LISTED;
-use super::MAX_SEED;
-use uds::clock::Duration;
-use uds::nrc::DEFAULT_P2;
-use uds::nrc::DEFAULT_P2_EXT;
-use uds::nrc::DEFAULT_S3;
-use uds::nrc::Rate;
+ghost use Rattle.uds.specs.Rows.{Lists, listOf, sessionOf, serviceOf, didOf, levelOf, presetSession, DidIs, atLeast, securedBy};
+use super::clock::Duration;
+use super::nrc::DEFAULT_P2;
+use super::nrc::DEFAULT_P2_EXT;
+use super::nrc::DEFAULT_S3;
+use super::nrc::Rate;
+
+// A row's list has at most eight sessions, a seed or a key at most 32 bytes, and a span is below 2^32 milliseconds.
+pub const MAX_LISTED: u32 = 8;
+
+pub const MAX_SEED: u32 = 32;
 
 const MAX_SPAN: u64 = 0x1_0000_0000;
 

@@ -1,7 +1,7 @@
 -- The three spans in turn: the first that fails settles it.
 use borrow.Author.Tests.{lt-ltb, le-ltb}
-use Rattle.config.proofs.rows.SessionConfig.within.Statement.{statement}
-use Rattle.config.proofs.rows.SessionConfig.within.Tie as tie
+use Rattle.uds.proofs.rows.SessionConfig.within.Statement.{statement}
+use Rattle.uds.proofs.rows.SessionConfig.within.Tie as tie
 
 returns : tie.Need-returns
 returns c = rw (le-ltb _ _ (c .if1 .taken))
