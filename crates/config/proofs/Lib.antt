@@ -3,3 +3,4 @@ pub mod Kept
 pub mod Grown
 pub mod NewRows
 pub mod Building
+pub mod RoundTrip
