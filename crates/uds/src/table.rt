@@ -87,12 +87,12 @@ pub fn at_most(words: &[u32], from: usize, step: usize, rows: usize, most: u32) 
 {
     let len = words.len();
     let mut at = next(from, 0, len);
-    let mut i: usize = 0;
-    while i < rows {
+    let mut row: usize = 0;
+    while row < rows {
         if most < word(words, at) {
             return false;
         }
-        i += 1;
+        row += 1;
         at = next(at, step, len);
     }
     true

@@ -14,10 +14,10 @@ use Rattle.uds.proofs.table.at_most.Statement.{statement}
 use Rattle.uds.proofs.table.at_most.Tie as tie
 
 abbrev Inv-loop : tie.InvT-loop
-Inv-loop words from step rows most len at₀ i₀ at i = (i ≤ rows) × (len ≡ length words) × (at ≡ min (from + i * step) (length words)) × (all (isAtMost most) (tab (column words from step) 0 rows) ≡ all (isAtMost most) (tab (column words from step) i (rows - i)))
+Inv-loop words from step rows most len at₀ row₀ at row = (row ≤ rows) × (len ≡ length words) × (at ≡ min (from + row * step) (length words)) × (all (isAtMost most) (tab (column words from step) 0 rows) ≡ all (isAtMost most) (tab (column words from step) row (rows - row)))
 
 abbrev μ-loop : tie.MeasureT-loop
-μ-loop words from step rows most len at₀ i₀ at i = rows - i
+μ-loop words from step rows most len at₀ row₀ at row = rows - row
 
 next-requires : tie.Need-next-requires Inv-loop μ-loop
 next-requires c κs = search needs
@@ -35,11 +35,11 @@ returns c =
     let a = c .before .before .before .before .before .before .args in
     let l = c .before .before .before .loop in
     let f = column (now (a .words)) (a .from) (a .step) in
-    let k = read-row (now (a .words)) (a .from) (a .step) (l .i) (l .at) (c .before .word .result) (l .inv .2) (c .before .word .ensures) in
-    broken f (isAtMost (a .most)) (a .rows) (l .i) _ (l .inv .3) (omega arith) (lt-leb (f (l .i)) (a .most) (omega arith))
+    let k = read-row (now (a .words)) (a .from) (a .step) (l .row) (l .at) (c .before .word .result) (l .inv .2) (c .before .word .ensures) in
+    broken f (isAtMost (a .most)) (a .rows) (l .row) _ (l .inv .3) (omega arith) (lt-leb (f (l .row)) (a .most) (omega arith))
 
-add-i : tie.Need-add-i Inv-loop μ-loop
-add-i c = search needs
+add-row : tie.Need-add-row Inv-loop μ-loop
+add-row c = search needs
 
 next-requires-2 : tie.Need-next-requires-2 Inv-loop μ-loop
 next-requires-2 c κs = search needs
@@ -52,14 +52,14 @@ loop-again c =
     let a = c .before .before .before .before .before .before .before .args in
     let l = c .before .before .before .before .loop in
     let f = column (now (a .words)) (a .from) (a .step) in
-    let k = read-row (now (a .words)) (a .from) (a .step) (l .i) (l .at) (c .before .before .word .result) (l .inv .2) (c .before .before .word .ensures) in
-    (omega arith, l .inv .1, omega (arith, c .next2 .ensures, l .inv .1, l .inv .2, next-row (l .i) (a .step)), still f (isAtMost (a .most)) (a .rows) (l .i) _ (l .inv .3) (omega arith) (le-leb (f (l .i)) (a .most) (omega arith)))
+    let k = read-row (now (a .words)) (a .from) (a .step) (l .row) (l .at) (c .before .before .word .result) (l .inv .2) (c .before .before .word .ensures) in
+    (omega arith, l .inv .1, omega (arith, c .next2 .ensures, l .inv .1, l .inv .2, next-row (l .row) (a .step)), still f (isAtMost (a .most)) (a .rows) (l .row) _ (l .inv .3) (omega arith) (le-leb (f (l .row)) (a .most) (omega arith)))
 
 returns-2 : tie.Need-returns-2 Inv-loop μ-loop
 returns-2 c =
     let a = c .before .before .before .before .args in
     let l = c .before .loop in
-    kept (column (now (a .words)) (a .from) (a .step)) (isAtMost (a .most)) (a .rows) (l .i) _ (l .inv .3) (omega arith)
+    kept (column (now (a .words)) (a .from) (a .step)) (isAtMost (a .most)) (a .rows) (l .row) _ (l .inv .3) (omega arith)
 
 pub at-most-spec : {M : Type 1} → statement M
 at-most-spec =
@@ -71,7 +71,7 @@ at-most-spec =
     loop-holds
     word-requires
     returns
-    add-i
+    add-row
     next-requires-2
     loop-less
     loop-again
