@@ -8,6 +8,7 @@ use lib.ListN.{length, getD, set, replicate}
 use lib.Seq.{paste}
 use lib.Dec.{ltb}
 use borrow.Author.Tests.{ltb-true}
+use Rattle.model.proofs.Laws.{left, right}
 use Rattle.model.specs.Config.{within, sessionWithin, serviceWithin, didWithin, levelWithin}
 use Rattle.model.specs.Config as Model
 use Rattle.uds.specs.declared.rows.SessionList.{SessionList}
@@ -19,7 +20,7 @@ use Rattle.config.specs.View.{sessionAt, serviceAt, didAt, levelAt, sess
 use Rattle.uds.specs.Rows.{sessionOf, serviceOf, didOf, levelOf}
 use Rattle.config.specs.Build.{settled, addSession, addService, addDid, addLevel, listWords, sessionRow, serviceRow, didRow, levelRow}
 use Rattle.uds.proofs.Tab.{tab-length}
-use Rattle.config.proofs.Kept.{left, right, kept, with-session, with-service, with-did, with-level, taken}
+use Rattle.config.proofs.Kept.{kept, with-session, with-service, with-did, with-level, taken}
 use Rattle.config.proofs.Grown.{grown, rewritten, session-added, service-added, did-added, level-added}
 use Rattle.config.proofs.NewRows.{session-new, service-new, did-new, level-new}
 

@@ -1,7 +1,7 @@
 -- What a configuration that keeps its numbers tells of its image, and when one that is given a row more keeps them.
 use Prim.Native.Nat.{ℕ, zero, suc, _+_, _*_, _^_, _≤_, _<_}
 use mathlib.Core.Path.{_≡_, refl, ap, sym, _∙_}
-use mathlib.Core.Bool.{Bool, true, false, _&&_, false≢true}
+use mathlib.Core.Bool.{Bool, true, false, _&&_}
 use mathlib.Core.List.{List, [], _∷_, _++_}
 use native.Mathlib.Omega.{arith}
 use lib.ListN.{length, getD, length-append}
@@ -10,21 +10,13 @@ use borrow.Author.Tests.{leb-true, le-leb, lt-leb, lt-ltb, le-ltb}
 use native.Mathlib.Decide.{decLe}
 use native.Mathlib.Nat.{lt-of-not-le}
 use Rattle.model.specs.Tests.{all}
+use Rattle.model.proofs.Laws.{left, right}
 use Rattle.model.specs.Numbers.{maxSessions, maxServices, maxDids, maxLevels}
 use Rattle.model.specs.Config.{SessionConfig, ServiceConfig, DidConfig, SecurityLevelConfig, Config, within, tableWithin, sessionWithin, serviceWithin, didWithin, levelWithin}
 use Rattle.uds.specs.Table.{tab, column}
 use Rattle.config.specs.View.{listAt, sessionAt, serviceAt, didAt, levelAt, sessionCount, serviceCount, didCount, levelCount, configOf}
 use Rattle.config.specs.Build.{addSession, addService, addDid, addLevel, settled, overfull}
 use Rattle.uds.proofs.Tab.{tab-length}
-
--- of a conjunction that holds, each part does
-pub left : (a b : Bool) → (a && b) ≡ true → a ≡ true
-left true b e = refl
-left false b e = e
-
-pub right : (a b : Bool) → (a && b) ≡ true → b ≡ true
-right true b e = e
-right false b e = absurd (false≢true e)
 
 -- each row passes a test that all pass
 all-at : {B : Type 0} (p : B → Bool) (f : ℕ → B) (k n : ℕ) → all p (tab f k n) ≡ true → (i : ℕ) → k ≤ i → i < k + n → p (f i) ≡ true

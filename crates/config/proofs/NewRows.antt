@@ -7,6 +7,7 @@ use native.Mathlib.Omega.{arith}
 use lib.ListN.{length, getD}
 use lib.Dec.{leb, ltb}
 use borrow.Author.Tests.{leb-true, ltb-true}
+use Rattle.model.proofs.Laws.{left, right}
 use Rattle.model.specs.Config.{sessionWithin, serviceWithin, didWithin, levelWithin}
 use Rattle.uds.specs.declared.rows.SessionList.{SessionList}
 use Rattle.uds.specs.declared.rows.SessionConfig.{SessionConfig}
@@ -18,7 +19,6 @@ use Rattle.config.specs.View.{listAt, sessionAt, serviceAt, didAt, level
 use Rattle.uds.specs.Rows.{entryOf, listOf, sessionOf, serviceOf, didOf, levelOf}
 use Rattle.config.specs.Build.{low, listWords, sessionRow, serviceRow, didRow, levelRow}
 use Rattle.uds.proofs.Tab.{tab-length, tab-same}
-use Rattle.config.proofs.Kept.{left, right}
 use Rattle.config.proofs.Grown.{Grown}
 
 low-is : (x : ℕ) → x < 2 ^ 32 → low x ≡ x
