@@ -33,11 +33,6 @@ grown w v counter at row e c f =
       after = λ j h. rw e (pasted-after u at row (length row) l r j h ∙ getD-set-other w counter j (getD w counter 0 + 1) 0 (λ z. omega arith));
     }
 
--- the same place and the same words, otherwise written
-pub rewritten : (v u : List ℕ) (from step n m : ℕ) (row words : List ℕ) → n ≡ m → row ≡ words → v ≡ paste u (from + n * step) row (length row) → v ≡ paste u (from + m * step) words (length words)
-rewritten v u from step n m row words e i h =
-    h ∙ ap (λ (k : ℕ). paste u (from + k * step) row (length row)) e ∙ ap (λ (l : List ℕ). paste u (from + m * step) l (length l)) i
-
 -- two images that agree on a part
 abbrev pub Same : List ℕ → List ℕ → ℕ → ℕ → Type 0
 Same w v from to = (j : ℕ) → from ≤ j → j < to → getD v j 0 ≡ getD w j 0

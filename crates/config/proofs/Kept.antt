@@ -8,15 +8,15 @@ use lib.ListN.{length, getD, length-append}
 use lib.Dec.{leb, ltb}
 use borrow.Author.Tests.{leb-true, le-leb, lt-leb, lt-ltb, le-ltb}
 use native.Mathlib.Decide.{decLe}
-use native.Mathlib.Nat.{lt-of-not-le}
-use Rattle.model.specs.Tests.{all}
+use native.Mathlib.Nat.{lt-of-not-le, mul-le-mul-right}
+use Rattle.model.specs.Tests.{pick, all}
 use Rattle.model.proofs.Laws.{left, right}
 use Rattle.model.specs.Numbers.{maxSessions, maxServices, maxDids, maxLevels}
 use Rattle.model.specs.Config.{SessionConfig, ServiceConfig, DidConfig, SecurityLevelConfig, Config, within, tableWithin, sessionWithin, serviceWithin, didWithin, levelWithin}
 use Rattle.uds.specs.Table.{tab, column}
 use Rattle.config.specs.View.{listAt, sessionAt, serviceAt, didAt, levelAt, sessionCount, serviceCount, didCount, levelCount, configOf}
-use Rattle.config.specs.Build.{addSession, addService, addDid, addLevel, settled, overfull}
-use Rattle.uds.proofs.Tab.{tab-length}
+use Rattle.config.specs.Build.{addSession, addService, addDid, addLevel, settled, overfull, overfullWords}
+use Rattle.uds.proofs.Tab.{tab-length, next-row}
 
 -- each row passes a test that all pass
 all-at : {B : Type 0} (p : B → Bool) (f : ℕ → B) (k n : ℕ) → all p (tab f k n) ≡ true → (i : ℕ) → k ≤ i → i < k + n → p (f i) ≡ true
@@ -161,13 +161,27 @@ module _ (c : Config) where
   unfolding within sessionsOk servicesOk didsOk levelsOk
   with-level r = rw (more maxLevels levelWithin (c .levels) r) (fourth-table sessionsOk servicesOk didsOk levelsOk (ltb (length (c .levels)) maxLevels) (levelWithin r))
 
--- so it is refused, or taken as it is
-module _ (c : Config) (room row : Bool) (d : within c ≡ (room && row)) where
-  pub no-room : room ≡ false → overfull ≡ settled c
-  no-room e = rw (d, e)
+-- so an image that has the row exactly where all three hold, and is the overfull one else, is what was asked for, settled
+pub made : (v put : List ℕ) (c : Config) (a b : Bool) → within c ≡ (a && b) → v ≡ pick (a && b) put overfullWords → (a ≡ true → b ≡ true → v ≡ put → configOf v ≡ c) → configOf v ≡ settled c
+made v put c true true d e k = k refl refl e ∙ rw d
+made v put c true false d e k = ap configOf e ∙ rw d
+made v put c false b d e k = ap configOf e ∙ rw d
 
-  pub no-row : room ≡ true → row ≡ false → overfull ≡ settled c
-  no-row e f = rw (d, e, f)
+-- one of two by three tests in turn
+module _ {A : Type 0} (x y : A) (a b k : Bool) where
+  pub no-config : a ≡ false → y ≡ pick ((a && b) && k) x y
+  no-config e = rw e
 
-  pub taken : room ≡ true → row ≡ true → c ≡ settled c
-  taken e f = rw (d, e, f)
+  pub no-room : a ≡ true → b ≡ false → y ≡ pick ((a && b) && k) x y
+  no-room e f = rw (e, f)
+
+  pub no-row : a ≡ true → b ≡ true → k ≡ false → y ≡ pick ((a && b) && k) x y
+  no-row e f g = rw (e, f, g)
+
+  pub all-three : a ≡ true → b ≡ true → k ≡ true → x ≡ pick ((a && b) && k) x y
+  all-three e f g = rw (e, f, g)
+
+-- a row more lies in the image where the table does
+pub room-for : (n most from step len : ℕ) → n < most → from + most * step ≤ 3006 → len ≤ step → from + n * step + len ≤ 3006
+room-for n most from step len h p q =
+    let m : (n + 1) * step ≤ most * step = mul-le-mul-right step (omega arith) in omega (arith, next-row n step)

@@ -1,6 +1,8 @@
 -- What the builders make: one more row at the end, or the overfull configuration where that would not keep the numbers.
-use Prim.Native.Nat.{ℕ, _%_, _^_}
+use Prim.Native.Nat.{ℕ, _+_, _%_, _^_}
 use mathlib.Core.List.{List, [], _∷_, _++_}
+use lib.ListN.{length, getD, set, replicate}
+use lib.Seq.{paste}
 use Rattle.model.specs.Tests.{pick}
 use Rattle.model.specs.Config.{SessionConfig, ServiceConfig, DidConfig, SecurityLevelConfig, Config, within}
 use Rattle.uds.specs.Table.{tab}
@@ -69,3 +71,11 @@ didRow r = r .identifier ∷ r .«security_level» ∷ low (r .«min_periodic_in
 
 abbrev pub levelRow : Level.SecurityLevelConfig → List ℕ
 levelRow r = r .level ∷ r .«max_attempts» ∷ low (r .«lockout_duration» .0) ∷ low (r .«seed_length») ∷ low (r .«key_length») ∷ []
+
+-- an image with a row more: the row's words from a place on, and the table's count gone up
+abbrev pub rowPut : List ℕ → ℕ → ℕ → List ℕ → List ℕ
+rowPut w counter at row = paste (set w counter (getD w counter 0 + 1)) at row (length row)
+
+-- the overfull configuration's image
+abbrev pub overfullWords : List ℕ
+overfullWords = set (replicate 3006 0) 2 9

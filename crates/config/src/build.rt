@@ -1,16 +1,17 @@
 // Builders of a configuration, in the Rust's names. What no longer keeps the numbers is never taken in part: the configuration
 // becomes an overfull one, stays so, and `within` says it.
 ghost use mathlib.Core.Path.{_≡_};
-ghost use Prim.Native.Nat.{_+_, _%_, _^_, _≤_, _<_};
+ghost use Prim.Native.Nat.{_+_, _*_, _%_, _^_, _≤_, _<_};
 ghost use mathlib.Core.Bool.{_&&_};
 ghost use mathlib.Core.List.{[]};
 ghost use lib.Dec.{ltb};
-ghost use lib.ListN.{length, getD, set};
+ghost use lib.ListN.{length, getD};
 ghost use lib.Seq.{paste};
+ghost use Rattle.model.specs.Tests.{pick};
 ghost use Rattle.model.specs.Config as Model;
 ghost use Rattle.config.specs.View.{configOf};
 ghost use Rattle.uds.specs.Rows.{sessionOf, serviceOf, didOf, levelOf};
-ghost use Rattle.config.specs.Build.{bare, overfull, settled, addSession, addService, addDid, addLevel, listWords, sessionRow, serviceRow, didRow, levelRow};
+ghost use Rattle.config.specs.Build.{bare, settled, rowPut, overfullWords, addSession, addService, addDid, addLevel, listWords, sessionRow, serviceRow, didRow, levelRow};
 use super::Config;
 use super::DID_WORDS;
 use super::DIDS;
@@ -65,7 +66,7 @@ fn put(words: &mut [u32], at: usize, row: &[u32])
 
 // The configuration that tells of rows that found no room: it has nine sessions.
 fn overfull() -> Config
-    ensures { λ r. ⌜ configOf r ≡ overfull ⌝ }
+    ensures { λ r. ⌜ r ≡ overfullWords ⌝ }
 {
     let mut config = [0u32; 3006];
     config[SESSIONS] = 9;
@@ -82,25 +83,41 @@ pub fn new(physical_address: u16, functional_address: u16) -> Config
     config
 }
 
-// The configuration keeps the numbers, and a table of `n` rows has room for one more.
-fn has_room(config: &Config, n: usize, most: usize) -> bool
-    ensures { λ r. ⌜ r ≡ (Model.within (configOf (now (config .entry))) && ltb n most) ⌝ }
-{
-    if !within(config) {
-        return false;
-    }
-    n < most
-}
-
 // One more row: its words from `at` on, and the table's count.
 fn grown(mut config: Config, counter: usize, at: usize, row: &[u32]) -> Config
     requires { ⌜ (counter < 6) × (getD config counter 0 < 128) × (at + length (now row) ≤ 3006) ⌝ }
-    ensures { λ r. ⌜ r ≡ paste (set config counter (getD config counter 0 + 1)) at (now (row .entry)) (length (now (row .entry))) ⌝ }
+    ensures { λ r. ⌜ r ≡ rowPut config counter at (now (row .entry)) ⌝ }
 {
     let n = config[counter];
     config[counter] = n + 1;
     put(&mut config, at, row);
     config
+}
+
+// One more row behind those of its table, where there is room for it, the row keeps the numbers, and so does the configuration.
+fn with_row(
+    config: Config,
+    counter: usize,
+    most: usize,
+    from: usize,
+    step: usize,
+    keeps: bool,
+    row: &[u32],
+) -> Config
+    requires { ⌜ (counter < 6) × (most ≤ 128) × (from + most * step ≤ 3006) × (length (now row) ≤ step) ⌝ }
+    ensures { λ r. ⌜ r ≡ pick ((Model.within (configOf config) && ltb (getD config counter 0) most) && keeps) (rowPut config counter (from + getD config counter 0 * step) (now (row .entry))) overfullWords ⌝ }
+{
+    let n = word(&config, counter) as usize;
+    if !within(&config) {
+        return overfull();
+    }
+    if most <= n {
+        return overfull();
+    }
+    if !keeps {
+        return overfull();
+    }
+    grown(config, counter, from + n * step, row)
 }
 
 fn session_row(s: SessionConfig) -> [u32; 4]
@@ -172,55 +189,59 @@ fn level_row(l: SecurityLevelConfig) -> [u32; 5]
 pub fn with_session(config: Config, s: SessionConfig) -> Config
     ensures { λ r. ⌜ configOf r ≡ settled (addSession (configOf config) (sessionOf s)) ⌝ }
 {
-    let n = word(&config, SESSIONS) as usize;
-    if !has_room(&config, n, MAX_SESSIONS) {
-        return overfull();
-    }
-    if !s.within() {
-        return overfull();
-    }
     let row = session_row(s);
-    grown(config, SESSIONS, SESSION_TYPE + n * SESSION_WORDS, &row)
+    with_row(
+        config,
+        SESSIONS,
+        MAX_SESSIONS,
+        SESSION_TYPE,
+        SESSION_WORDS,
+        s.within(),
+        &row,
+    )
 }
 
 pub fn with_service(config: Config, s: ServiceConfig) -> Config
     ensures { λ r. ⌜ configOf r ≡ settled (addService (configOf config) (serviceOf s)) ⌝ }
 {
-    let n = word(&config, SERVICES) as usize;
-    if !has_room(&config, n, MAX_SERVICES) {
-        return overfull();
-    }
-    if !s.within() {
-        return overfull();
-    }
     let row = service_row(s);
-    grown(config, SERVICES, SERVICE_ID + n * SERVICE_WORDS, &row)
+    with_row(
+        config,
+        SERVICES,
+        MAX_SERVICES,
+        SERVICE_ID,
+        SERVICE_WORDS,
+        s.within(),
+        &row,
+    )
 }
 
 pub fn with_did(config: Config, d: DidConfig) -> Config
     ensures { λ r. ⌜ configOf r ≡ settled (addDid (configOf config) (didOf d)) ⌝ }
 {
-    let n = word(&config, DIDS) as usize;
-    if !has_room(&config, n, MAX_DIDS) {
-        return overfull();
-    }
-    if !d.within() {
-        return overfull();
-    }
     let row = did_row(d);
-    grown(config, DIDS, IDENTIFIER + n * DID_WORDS, &row)
+    with_row(
+        config,
+        DIDS,
+        MAX_DIDS,
+        IDENTIFIER,
+        DID_WORDS,
+        d.within(),
+        &row,
+    )
 }
 
 pub fn with_security_level(config: Config, l: SecurityLevelConfig) -> Config
     ensures { λ r. ⌜ configOf r ≡ settled (addLevel (configOf config) (levelOf l)) ⌝ }
 {
-    let n = word(&config, LEVELS) as usize;
-    if !has_room(&config, n, MAX_SECURITY_LEVELS) {
-        return overfull();
-    }
-    if !l.within() {
-        return overfull();
-    }
     let row = level_row(l);
-    grown(config, LEVELS, LEVEL + n * LEVEL_WORDS, &row)
+    with_row(
+        config,
+        LEVELS,
+        MAX_SECURITY_LEVELS,
+        LEVEL,
+        LEVEL_WORDS,
+        l.within(),
+        &row,
+    )
 }
