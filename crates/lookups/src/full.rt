@@ -1,7 +1,7 @@
 // A full configuration: 8 sessions, 24 services, 128 identifiers and 8 levels, with lists of 8. In each table one late row has the key
 // of the second, so that a key is there twice and another is missing.
+use super::show;
 use super::show::flag;
-use super::show::line;
 use super::show::value;
 use config::Config;
 use config::build;
@@ -83,26 +83,25 @@ fn levels(mut c: Config) -> Config {
 
 // The first row's key, the last row's, the one that is there twice, the one that is missing.
 fn rows(c: &Config) {
-    let n = config::session_count(c);
-    line(b"session", 0, config::find_session(c, 0), n);
-    line(b"session", 7, config::find_session(c, 7), n);
-    line(b"session", 1, config::find_session(c, 1), n);
-    line(b"session", 5, config::find_session(c, 5), n);
-    let m = config::service_count(c);
-    line(b"service", 0, config::find_service(c, 0), m);
-    line(b"service", 23, config::find_service(c, 23), m);
-    line(b"service", 1, config::find_service(c, 1), m);
-    line(b"service", 20, config::find_service(c, 20), m);
-    let k = config::did_count(c);
-    line(b"identifier", 0, config::find_did(c, 0), k);
-    line(b"identifier", 127, config::find_did(c, 127), k);
-    line(b"identifier", 1, config::find_did(c, 1), k);
-    line(b"identifier", 100, config::find_did(c, 100), k);
-    let l = config::security_level_count(c);
-    line(b"level", 0, config::find_security_level(c, 0), l);
-    line(b"level", 7, config::find_security_level(c, 7), l);
-    line(b"level", 1, config::find_security_level(c, 1), l);
-    line(b"level", 6, config::find_security_level(c, 6), l);
+    show::session(c, 0);
+    show::session(c, 7);
+    show::session(c, 1);
+    show::session(c, 5);
+    show::service(c, 0);
+    show::service(c, 23);
+    show::service(c, 1);
+    show::service(c, 20);
+}
+
+fn more_rows(c: &Config) {
+    show::did(c, 0);
+    show::did(c, 127);
+    show::did(c, 1);
+    show::did(c, 100);
+    show::level(c, 0);
+    show::level(c, 7);
+    show::level(c, 1);
+    show::level(c, 6);
 }
 
 // What the last rows say, and the last entry of a list.
@@ -129,40 +128,32 @@ fn last(c: &Config) {
     );
 }
 
-// One more than there is room for, and rows that do not keep the numbers.
+// One more than there is room for.
 fn past(c: Config) {
-    let e = build::new(1, 2);
-    flag(
-        b"a ninth session",
-        config::within(&build::with_session(c, SessionConfig::default_session())),
-    );
-    flag(
-        b"a 25th service",
-        config::within(&build::with_service(c, ServiceConfig::new(99, b"\x01"))),
-    );
-    flag(
-        b"a 129th identifier",
-        config::within(&build::with_did(c, DidConfig::read_only(999, b"\x01"))),
-    );
-    flag(
-        b"a list of nine",
-        config::within(&build::with_service(e, ServiceConfig::new(1, b"123456789"))),
-    );
-    flag(
-        b"an interval of 2^32",
-        config::within(
-            &build::with_did(
-                e,
-                DidConfig::read_only(1, b"\x01").periodic(Duration(0x1_0000_0000)),
-            ),
-        ),
-    );
+    let d = build::with_session(c, SessionConfig::default_session());
+    flag(b"a ninth session", config::within(&d));
+    let e = build::with_service(c, ServiceConfig::new(99, b"\x01"));
+    flag(b"a 25th service", config::within(&e));
+    let f = build::with_did(c, DidConfig::read_only(999, b"\x01"));
+    flag(b"a 129th identifier", config::within(&f));
 }
 
-pub(crate) fn show() {
+// Rows that do not keep the numbers.
+fn outside() {
+    let c = build::new(1, 2);
+    let d = build::with_service(c, ServiceConfig::new(1, b"123456789"));
+    flag(b"a list of nine", config::within(&d));
+    let long = DidConfig::read_only(1, b"\x01").periodic(Duration(0x1_0000_0000));
+    let e = build::with_did(c, long);
+    flag(b"an interval of 2^32", config::within(&e));
+}
+
+pub(crate) fn run() {
     let c = levels(dids(services(sessions(build::new(1, 2)))));
     flag(b"full: within", config::within(&c));
     rows(&c);
+    more_rows(&c);
     last(&c);
     past(c);
+    outside();
 }

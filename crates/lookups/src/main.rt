@@ -7,7 +7,6 @@ use config::Config;
 use config::build;
 use libc::STDOUT_FILENO;
 use show::flag;
-use show::line;
 use uds::clock::Duration;
 use uds::rows::DidConfig;
 use uds::rows::SecurityLevelConfig;
@@ -46,39 +45,43 @@ fn fixed() -> Config {
     )
 }
 
-fn show_rows(c: &Config) {
-    let n = config::session_count(c);
-    line(b"session", 1, config::find_session(c, 1), n);
-    line(b"session", 3, config::find_session(c, 3), n);
-    line(b"session", 8, config::find_session(c, 8), n);
-    line(b"session", 5, config::find_session(c, 5), n);
-    let m = config::service_count(c);
-    line(b"service", 0x3E, config::find_service(c, 0x3E), m);
-    line(b"service", 0x38, config::find_service(c, 0x38), m);
-    line(b"service", 0x14, config::find_service(c, 0x14), m);
-    let k = config::did_count(c);
-    line(b"identifier", 0xF190, config::find_did(c, 0xF190), k);
-    line(b"identifier", 0xF201, config::find_did(c, 0xF201), k);
-    line(b"identifier", 0xF202, config::find_did(c, 0xF202), k);
-    let l = config::security_level_count(c);
-    line(b"level", 3, config::find_security_level(c, 3), l);
-    line(b"level", 5, config::find_security_level(c, 5), l);
+fn rows(c: &Config) {
+    show::session(c, 1);
+    show::session(c, 3);
+    show::session(c, 8);
+    show::session(c, 5);
+    show::service(c, 0x3E);
+    show::service(c, 0x38);
+    show::service(c, 0x14);
+}
+
+fn more_rows(c: &Config) {
+    show::did(c, 0xF190);
+    show::did(c, 0xF201);
+    show::did(c, 0xF202);
+    show::level(c, 3);
+    show::level(c, 5);
+}
+
+fn sessions_listed(c: &Config) {
+    flag(b"3E in session 3", config::service_allowed(c, 0x3E, 3));
+    flag(b"3E in session 2", config::service_allowed(c, 0x3E, 2));
+    flag(
+        b"F190 read in session 1",
+        config::did_readable(c, 0xF190, 1),
+    );
+    flag(
+        b"F190 written in session 2",
+        config::did_writable(c, 0xF190, 2),
+    );
 }
 
 fn main() {
     let c = fixed();
     flag(b"fixed: within", config::within(&c));
-    show_rows(&c);
-    flag(b"3E in session 3", config::service_allowed(&c, 0x3E, 3));
-    flag(b"3E in session 2", config::service_allowed(&c, 0x3E, 2));
-    flag(
-        b"F190 read in session 1",
-        config::did_readable(&c, 0xF190, 1),
-    );
-    flag(
-        b"F190 written in session 2",
-        config::did_writable(&c, 0xF190, 2),
-    );
-    full::show();
+    rows(&c);
+    more_rows(&c);
+    sessions_listed(&c);
+    full::run();
     io::write_all(STDOUT_FILENO, b"done\n");
 }

@@ -1,4 +1,5 @@
 // What the test writes.
+use config::Config;
 use libc::STDOUT_FILENO;
 use uds::table::Found;
 use uds::table::examined;
@@ -12,9 +13,8 @@ fn number(n: u64) {
 }
 
 // What was looked up, its key, the row, and the rows examined.
-pub(crate) fn line(what: &[u8], key: u64, found: Found, rows: usize) {
+fn line(what: &[u8], key: u64, found: Found, rows: usize) {
     text(what);
-    text(b" ");
     number(key);
     text(b": ");
     row(found);
@@ -29,6 +29,42 @@ fn row(found: Found) {
         return;
     };
     number(i as u64);
+}
+
+pub(crate) fn session(c: &Config, key: u8) {
+    line(
+        b"session ",
+        key as u64,
+        config::find_session(c, key),
+        config::session_count(c),
+    );
+}
+
+pub(crate) fn service(c: &Config, key: u8) {
+    line(
+        b"service ",
+        key as u64,
+        config::find_service(c, key),
+        config::service_count(c),
+    );
+}
+
+pub(crate) fn did(c: &Config, key: u16) {
+    line(
+        b"identifier ",
+        key as u64,
+        config::find_did(c, key),
+        config::did_count(c),
+    );
+}
+
+pub(crate) fn level(c: &Config, key: u8) {
+    line(
+        b"level ",
+        key as u64,
+        config::find_security_level(c, key),
+        config::security_level_count(c),
+    );
 }
 
 pub(crate) fn flag(what: &[u8], yes: bool) {
