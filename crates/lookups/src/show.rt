@@ -1,0 +1,84 @@
+// What the test writes.
+use config::Config;
+use libc::STDOUT_FILENO;
+use uds::table::Found;
+use uds::table::examined;
+
+fn text(t: &[u8]) {
+    io::write_all(STDOUT_FILENO, t);
+}
+
+fn number(n: u64) {
+    io::print_decimal(STDOUT_FILENO, n);
+}
+
+// What was looked up, its key, the row, and the rows examined.
+fn line(what: &[u8], key: u64, found: Found, rows: usize) {
+    text(what);
+    number(key);
+    text(b": ");
+    row(found);
+    text(b", ");
+    number(examined(found, rows) as u64);
+    text(b" examined\n");
+}
+
+fn row(found: Found) {
+    let Found::At(i) = found else {
+        text(b"-");
+        return;
+    };
+    number(i as u64);
+}
+
+pub(crate) fn session(c: &Config, key: u8) {
+    line(
+        b"session ",
+        key as u64,
+        config::find_session(c, key),
+        config::session_count(c),
+    );
+}
+
+pub(crate) fn service(c: &Config, key: u8) {
+    line(
+        b"service ",
+        key as u64,
+        config::find_service(c, key),
+        config::service_count(c),
+    );
+}
+
+pub(crate) fn did(c: &Config, key: u16) {
+    line(
+        b"identifier ",
+        key as u64,
+        config::find_did(c, key),
+        config::did_count(c),
+    );
+}
+
+pub(crate) fn level(c: &Config, key: u8) {
+    line(
+        b"level ",
+        key as u64,
+        config::find_security_level(c, key),
+        config::security_level_count(c),
+    );
+}
+
+pub(crate) fn flag(what: &[u8], yes: bool) {
+    text(what);
+    if yes {
+        text(b": yes\n");
+    } else {
+        text(b": no\n");
+    }
+}
+
+pub(crate) fn value(what: &[u8], n: u64) {
+    text(what);
+    text(b": ");
+    number(n);
+    text(b"\n");
+}
