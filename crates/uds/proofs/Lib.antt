@@ -1,2 +1,4 @@
 pub mod Bits
 pub mod Lists
+pub mod Tab
+pub mod Within

@@ -1,1 +1,3 @@
 pub mod Clock
+pub mod Table
+pub mod View

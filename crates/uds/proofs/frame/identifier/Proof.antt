@@ -1,13 +1,10 @@
-use mathlib.Core.Path.{_≡_, _∙_}
 use Prim.Native.Nat.{_*_, _%_}
+use mathlib.Core.Path.{_≡_}
 use native.Mathlib.Omega.{arith}
 use Rattle.uds.proofs.Bits.{low-byte}
 use Rattle.uds.proofs.frame.identifier.Statement.{statement}
 use Rattle.uds.proofs.frame.identifier.Tie as tie
-use Rattle.uds.proofs.frame.identifier.Reads as reads
-use Rattle.uds.proofs.frame.identifier.Lts as lts
 
--- src/frame.rt:74:1
 returns : tie.Need-returns
 returns c = let e : c .args .high * 256 % 65536 ≡ c .args .high * 256 = omega arith in rw e (low-byte (c .args .high) (c .args .low) (omega arith))
 

@@ -1,10 +1,7 @@
 use lib.Bits.{and-mask}
 use Rattle.uds.proofs.frame.low_nibble.Statement.{statement}
 use Rattle.uds.proofs.frame.low_nibble.Tie as tie
-use Rattle.uds.proofs.frame.low_nibble.Reads as reads
-use Rattle.uds.proofs.frame.low_nibble.Lts as lts
 
--- src/frame.rt:53:1
 returns : tie.Need-returns
 returns c = and-mask (c .args .b) 4
 

@@ -4,10 +4,7 @@ use native.Mathlib.Omega.{arith}
 use Rattle.uds.proofs.Bits.{low-byte}
 use Rattle.uds.proofs.frame.periodic_did.Statement.{statement}
 use Rattle.uds.proofs.frame.periodic_did.Tie as tie
-use Rattle.uds.proofs.frame.periodic_did.Reads as reads
-use Rattle.uds.proofs.frame.periodic_did.Lts as lts
 
--- src/frame.rt:60:1
 returns : tie.Need-returns
 returns c = let e : c .args .b % 256 ≡ c .args .b = omega arith in rw e (low-byte 0xF2 (c .args .b) (omega arith))
 

@@ -2,10 +2,7 @@ use Rattle.model.specs.Frame.{response}
 use Rattle.uds.proofs.Bits.{bit6-set}
 use Rattle.uds.proofs.frame.response.Statement.{statement}
 use Rattle.uds.proofs.frame.response.Tie as tie
-use Rattle.uds.proofs.frame.response.Reads as reads
-use Rattle.uds.proofs.frame.response.Lts as lts
 
--- src/frame.rt:67:1
 returns : tie.Need-returns
 unfolding response
 returns c = bit6-set (c .args .sid)

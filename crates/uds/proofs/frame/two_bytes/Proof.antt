@@ -3,18 +3,13 @@ use native.Mathlib.Omega.{arith}
 use lib.Bits.{and-mask, mask-lt}
 use Rattle.uds.proofs.frame.two_bytes.Statement.{statement}
 use Rattle.uds.proofs.frame.two_bytes.Tie as tie
-use Rattle.uds.proofs.frame.two_bytes.Reads as reads
-use Rattle.uds.proofs.frame.two_bytes.Lts as lts
 
--- src/frame.rt:96:14
 cast-t4 : tie.Need-cast-t4
 cast-t4 c = omega (arith, mask-lt (c .args .n / 256) 8)
 
--- src/frame.rt:96:37
 cast-t6 : tie.Need-cast-t6
 cast-t6 c = omega (arith, mask-lt (c .args .n) 8)
 
--- src/frame.rt:93:1
 returns : tie.Need-returns
 returns c = rw (and-mask (c .args .n / 256) 8, and-mask (c .args .n) 8)
 

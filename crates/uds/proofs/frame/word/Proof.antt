@@ -1,37 +1,26 @@
 use Prim.Native.Nat.{_+_}
-use mathlib.Core.Path.{_≡_}
 use native.Mathlib.Omega.{arith}
+use lib.ListN.{List·getD-eq-default}
 use denote.Ref.{now}
-use lib.ListN.{getD, List·getD-eq-default}
 use borrow.Author.Needs.{needs}
 use Rattle.uds.proofs.frame.word.Statement.{statement}
 use Rattle.uds.proofs.frame.word.Tie as tie
-use Rattle.uds.proofs.frame.word.Reads as reads
-use Rattle.uds.proofs.frame.word.Lts as lts
-use Rattle.uds.proofs.frame.byte.Reads as byte-reads
-use Rattle.uds.proofs.frame.identifier.Reads as identifier-reads
 
--- src/frame.rt:85:9
 returns : tie.Need-returns
 returns c = let p = now (c .before .before .args .payload) in let i = c .before .before .args .at in omega (arith, List·getD-eq-default p 0 {n = i} (omega arith), List·getD-eq-default p 0 {n = i + 1} (omega arith))
 
--- src/frame.rt:87:16
 byte-requires : tie.Need-byte-requires
 byte-requires c κs = search needs
 
--- src/frame.rt:87:49
 add-byte : tie.Need-add-byte
 add-byte c = search needs
 
--- src/frame.rt:87:35
 byte-requires-2 : tie.Need-byte-requires-2
 byte-requires-2 c κs = search needs
 
--- src/frame.rt:87:5
 identifier-requires : tie.Need-identifier-requires
 identifier-requires c κs = search needs
 
--- src/frame.rt:81:1
 returns-2 : tie.Need-returns-2
 returns-2 c = search needs
 

@@ -1,19 +1,13 @@
-use mathlib.Core.Path.{_∙_}
 use borrow.Author.Tests.{eq-eqb, ne-eqb}
 use Rattle.uds.proofs.nrc.Rate.interval.Statement.{statement}
 use Rattle.uds.proofs.nrc.Rate.interval.Tie as tie
-use Rattle.uds.proofs.nrc.Rate.interval.Reads as reads
-use Rattle.uds.proofs.nrc.Rate.interval.Lts as lts
 
--- src/nrc.rt:70:13
 returns : tie.Need-returns
 returns c = rw (eq-eqb _ _ (c .if1 .taken))
 
--- src/nrc.rt:73:13
 returns-2 : tie.Need-returns-2
 returns-2 c = rw (ne-eqb _ _ (c .before .before .if1 .left), eq-eqb _ _ (c .if2 .taken))
 
--- src/nrc.rt:66:5
 returns-3 : tie.Need-returns-3
 returns-3 c = rw (ne-eqb _ _ (c .before .before .if1 .left), ne-eqb _ _ (c .if2 .left))
 
