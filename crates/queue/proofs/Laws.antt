@@ -14,16 +14,11 @@ use Rattle.model.specs.Reply.{withheld}
 use Rattle.queue.specs.Model.{QueueStep, leaves, pushed, refused, confirmed, sent}
 use Rattle.queue.specs.View.{roomSize, bytesAt, queueOf, placeOf, draftOf, modeOf, stepOf, Pushes, Stands}
 use Rattle.queue.specs.declared.reply.Pushed.{Pushed}
-use Rattle.queue.proofs.Room.{bytes-length}
 
 -- a frame that stands in the free place, pushed
 pub queues : {count to n : ℕ} {bytes heads heads' room room' : List ℕ} {r : Pushed} → Stands count bytes n room room' → Pushes count to n heads r heads'
     → stepOf r heads' room' ≡ pushed (queueOf count heads room) to bytes
 queues {to = to} {heads = h} {room' = m} s p = p .step m ∙ ap₂ (λ (q : List Frame) (b : List ℕ). pushed q to b) (s .unseen h (p .size)) (s .there)
-
--- as long as it is said to be
-pub draft-length : (count len : ℕ) (room : List ℕ) → length room ≡ roomSize → length (draftOf count len room) ≡ len
-draft-length count len room z = bytes-length room (placeOf count + 1) len (omega arith)
 
 -- a physical request hears every code
 pub unwithheld : (code : ℕ) → withheld physical code ≡ false

@@ -1,3 +1,4 @@
 pub mod Laws
 pub mod Over
+pub mod Replied
 pub mod Room

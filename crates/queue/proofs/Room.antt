@@ -6,14 +6,16 @@ use native.Mathlib.Omega.{arith}
 use native.Mathlib.Decide.{decLt}
 use lib.ListN.{length, getD, take, drop, set, replicate, length-take, length-drop, length-append, length-set, length-replicate, List·getD-eq-default}
 use lib.Seq.{getD-set-same, getD-set-other, take-take, take-add, drop-drop}
-use borrow.Author.Tests.{lt-ltb, le-ltb}
+use borrow.Author.Tests.{lt-ltb, le-ltb, le-leb, lt-leb}
 use Rattle.model.specs.Numbers.{maxFrame, maxOutbox}
 use Rattle.model.specs.Frame.{Frame}
 use Rattle.uds.specs.Table.{tab}
 use Rattle.uds.proofs.Tab.{tab-same, tab-snoc, tab-length}
+use Rattle.model.specs.Service22.{going}
+use Rattle.queue.specs.declared.draft.Drafted.the-variants.{Going, TooLong}
 use Rattle.queue.specs.Over.{over}
 use Rattle.queue.specs.Model.{QueueStep, leaves, pushed}
-use Rattle.queue.specs.View.{roomSize, headsSize, bytesAt, frameAt, queueOf, placeOf, draftOf, Unseen, Stands}
+use Rattle.queue.specs.View.{roomSize, headsSize, bytesAt, frameAt, queueOf, placeOf, draftOf, Unseen, Stands, Drafts}
 use Rattle.queue.proofs.Over.{part, over-length, over-below, over-from, over-above}
 
 abbrev pub frame : ℕ → List ℕ → Frame
@@ -74,6 +76,30 @@ module _ (count at : ℕ) (room after : List ℕ) (z : length room ≡ roomSize)
             ∙ ap₂ (λ (x y : List ℕ). x ++ take len y) (over-from room (placeOf count) (first ∷ []) k (placeOf count) 0 (omega arith)) (drop-drop 1 (placeOf count) o ∙ over-above room (placeOf count) (first ∷ []) k)
             ∙ ap (_∷_ first) (sym (plain room (placeOf count + 1) len (omega arith)));
         unseen = unseen count room (placeOf count) (first ∷ []) z (omega arith) (omega arith);
+      })
+
+-- a reply in the making is as long as it is said to be
+pub draft-length : (count len : ℕ) (room : List ℕ) → length room ≡ roomSize → length (draftOf count len room) ≡ len
+draft-length count len room z = bytes-length room (placeOf count + 1) len (omega arith)
+
+-- bytes appended to it
+module _ (count len : ℕ) (room bytes : List ℕ) (z : length room ≡ roomSize) where
+  pub too-long : maxFrame < len + length bytes → Drafts count len bytes room TooLong room
+  too-long h = record { reading = rw (lt-leb (length (draftOf count len room) + length bytes) maxFrame (omega (arith, draft-length count len room z))); unseen = λ heads _. refl }
+
+  pub grows : (at : ℕ) (after : List ℕ) → at ≡ placeOf count + 1 + len → len + length bytes ≤ maxFrame → after ≡ over room at bytes → Drafts count len bytes room (Going (len + length bytes)) after
+  grows at after p h e =
+      let o : List ℕ = over room at bytes in
+      let k : at + length bytes ≤ length room = omega arith in
+      rw e
+      (record {
+        reading =
+            rw (le-leb (length (draftOf count len room) + length bytes) maxFrame (omega (arith, draft-length count len room z)))
+            (ap going
+            (plain o (placeOf count + 1) (len + length bytes) h
+            ∙ over-from room at bytes k (placeOf count + 1) len p
+            ∙ ap (λ (x : List ℕ). x ++ bytes) (sym (plain room (placeOf count + 1) len (omega arith)))));
+        unseen = unseen count room at bytes z (omega arith) (omega arith);
       })
 
 -- one more frame

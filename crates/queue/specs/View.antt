@@ -9,8 +9,11 @@ use Rattle.model.specs.Numbers.{maxFrame, maxOutbox}
 use Rattle.model.specs.Frame.{Frame}
 use Rattle.model.specs.State.{AddressMode, physical, functional}
 use Rattle.model.specs.Reply as Definition
+use Rattle.model.specs.Service22.{Reading, going, ended, appended}
 use Rattle.uds.specs.Table.{tab}
 use Rattle.queue.specs.Model.{QueueStep, pushed}
+use Rattle.queue.specs.declared.draft.Drafted.{Drafted}
+use Rattle.queue.specs.declared.draft.Drafted.the-variants.{Going, TooLong}
 use Rattle.queue.specs.declared.reply.Pushed.{Pushed}
 use Rattle.queue.specs.declared.reply.Reply.{Reply}
 use Rattle.queue.specs.declared.reply.Reply.the-variants.{Silent, Positive, Negative, Always, Pends}
@@ -68,4 +71,14 @@ Unseen count before after = (heads : List ℕ) → length heads ≡ headsSize �
 -- bytes that stand in the free place, which nothing shows yet
 pub record Stands (count : ℕ) (bytes : List ℕ) (n : ℕ) (before after : List ℕ) : Type 0 where
   pub there : bytesAt after (placeOf count) n ≡ bytes
+  pub unseen : Unseen count before after
+
+-- what appending to a reply in the making answers
+abbrev pub readingOf : Drafted → ℕ → List ℕ → Reading
+readingOf (Going len) count room = going (draftOf count len room)
+readingOf TooLong count room = ended (Definition.negative 0x14)
+
+-- bytes appended to a reply in the making, which nothing shows yet
+pub record Drafts (count len : ℕ) (bytes before : List ℕ) (r : Drafted) (after : List ℕ) : Type 0 where
+  pub reading : readingOf r count after ≡ appended maxFrame (draftOf count len before) bytes
   pub unseen : Unseen count before after

@@ -5,6 +5,7 @@ ghost use lib.ListN.{length};
 ghost use Rattle.queue.specs.View.{placeOf};
 ghost use Rattle.queue.specs.Over.{over};
 
+pub mod draft;
 pub mod reply;
 
 // Sixteen places of 256 bytes; a seventeenth, in which a reply is made where all sixteen are taken; and one byte more, since a

@@ -1,3 +1,4 @@
+use Rattle.queue.proofs.Room.{draft-length}
 use denote.Ref.{now}
 use mathlib.Core.Path.{_≡_, ap, _∙_}
 use mathlib.Core.List.{_∷_}
@@ -7,7 +8,7 @@ use lib.ListN.{length}
 use Rattle.model.specs.Numbers.{maxFrame}
 use Rattle.queue.specs.Model.{sent}
 use Rattle.queue.specs.View.{modeOf, queueOf, draftOf}
-use Rattle.queue.proofs.Laws.{draft-length, confirmed-short, confirmed-long}
+use Rattle.queue.proofs.Laws.{confirmed-short, confirmed-long}
 use borrow.Author.Needs.{needs}
 use Rattle.queue.proofs.reply.confirm.Statement.{statement}
 use Rattle.queue.proofs.reply.confirm.Tie as tie

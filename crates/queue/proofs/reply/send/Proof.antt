@@ -4,8 +4,8 @@ use mathlib.Core.List.{[], _∷_}
 use native.Mathlib.Omega.{arith}
 use lib.ListN.{length}
 use Rattle.queue.specs.View.{queueOf, draftOf}
-use Rattle.queue.proofs.Room.{leads}
-use Rattle.queue.proofs.Laws.{queues, draft-length, sent-short, sent-long}
+use Rattle.queue.proofs.Room.{leads, draft-length}
+use Rattle.queue.proofs.Laws.{queues, sent-short, sent-long}
 use borrow.Author.Needs.{needs}
 use Rattle.queue.proofs.reply.send.Statement.{statement}
 use Rattle.queue.proofs.reply.send.Tie as tie
