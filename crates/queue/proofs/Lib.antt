@@ -1,4 +1,5 @@
 pub mod Laws
 pub mod Over
+pub mod Records
 pub mod Replied
 pub mod Room

@@ -3,13 +3,15 @@
 use Prim.Native.Nat.{ℕ, suc}
 use mathlib.Core.Bool.{Bool}
 use mathlib.Core.List.{List, [], _∷_, _++_}
-use lib.ListN.{length}
+use lib.ListN.{length, drop}
 use lib.Dec.{leb, ltb}
 use Rattle.model.specs.Tests.{pick}
 use Rattle.model.specs.Numbers.{maxOutbox}
 use Rattle.model.specs.Frame.{Frame, positiveFrame, negativeFrame}
-use Rattle.model.specs.State.{AddressMode}
+use Rattle.model.specs.Config.{tableWithin}
+use Rattle.model.specs.State.{AddressMode, frameValid}
 use Rattle.model.specs.Reply.{Reply, silent, positive, negative, always, pends, withheld}
+use Rattle.model.specs.Drain.{records}
 
 -- a result number and the queue that is left
 pub record QueueStep : Type 0 where
@@ -42,3 +44,22 @@ answered limit mode q to sid pends = pushed q to (negativeFrame sid 0x78)
 -- a periodic frame: above the limit it is 4, and only then may it be 3
 unfoldable pub sent : ℕ → List Frame → ℕ → List ℕ → QueueStep
 sent limit q to bytes = pick (leb (length bytes) limit) (pushed q to bytes) (leaves 4 q)
+
+-- a drain's result, how many frames it wrote, the queue that is left, and the buffer
+pub record QueueDrain : Type 0 where
+  pub result : ℕ
+  pub frames : ℕ
+  pub queue : List Frame
+  pub buffer : List ℕ
+
+abbrev pub unmoved : ℕ → List Frame → List ℕ → QueueDrain
+unmoved n q buffer = record { result = n; frames = 0; queue = q; buffer = buffer }
+
+-- the records, and the buffer's rest unchanged; the queue is then empty
+abbrev pub written : List Frame → List ℕ → QueueDrain
+written q buffer = record { result = 0; frames = length q; queue = []; buffer = records q ++ drop (length (records q)) buffer }
+
+-- 10 where the queue is not valid, then 5 where the records exceed the buffer
+unfoldable pub drained : ℕ → List Frame → List ℕ → QueueDrain
+drained limit q buffer =
+    pick (tableWithin maxOutbox (frameValid limit) q) (pick (leb (length (records q)) (length buffer)) (written q buffer) (unmoved 5 q buffer)) (unmoved 10 q buffer)

@@ -1,5 +1,5 @@
 -- From the count, the heads and the room to the definition's queue, and from the program's answers to what they mean.
-use Prim.Native.Nat.{ℕ, _+_, _*_, _-_, _≤_, min}
+use Prim.Native.Nat.{ℕ, _+_, _*_, _-_, _≤_, _<_, min}
 use mathlib.Core.Path.{_≡_}
 use mathlib.Core.Bool.{Bool}
 use mathlib.Core.List.{List, _++_}
@@ -11,9 +11,10 @@ use Rattle.model.specs.State.{AddressMode, physical, functional}
 use Rattle.model.specs.Reply as Definition
 use Rattle.model.specs.Service22.{Reading, going, ended, appended}
 use Rattle.uds.specs.Table.{tab}
-use Rattle.queue.specs.Model.{QueueStep, pushed}
+use Rattle.queue.specs.Model.{QueueStep, QueueDrain, pushed}
 use Rattle.queue.specs.declared.draft.Drafted.{Drafted}
 use Rattle.queue.specs.declared.draft.Drafted.the-variants.{Going, TooLong}
+use Rattle.queue.specs.declared.drain.Drained.{Drained}
 use Rattle.queue.specs.declared.reply.Pushed.{Pushed}
 use Rattle.queue.specs.declared.reply.Reply.{Reply}
 use Rattle.queue.specs.declared.reply.Reply.the-variants.{Silent, Positive, Negative, Always, Pends}
@@ -82,3 +83,11 @@ readingOf TooLong count room = ended (Definition.negative 0x14)
 pub record Drafts (count len : ℕ) (bytes before : List ℕ) (r : Drafted) (after : List ℕ) : Type 0 where
   pub reading : readingOf r count after ≡ appended maxFrame (draftOf count len before) bytes
   pub unseen : Unseen count before after
+
+-- frames that stand in their places
+pub record Framed (n : ℕ) (heads : List ℕ) : Type 0 where
+  pub few : n ≤ maxOutbox
+  pub each : (i : ℕ) → i < n → getD heads (2 * i + 1) 0 ≤ maxFrame
+
+abbrev pub drainOf : Drained → List ℕ → List ℕ → List ℕ → QueueDrain
+drainOf d heads room buffer = record { result = d .result; frames = d .frames; queue = queueOf (d .count) heads room; buffer = buffer }

@@ -6,6 +6,7 @@ ghost use Rattle.queue.specs.View.{placeOf};
 ghost use Rattle.queue.specs.Over.{over};
 
 pub mod draft;
+pub mod drain;
 pub mod reply;
 
 // Sixteen places of 256 bytes; a seventeenth, in which a reply is made where all sixteen are taken; and one byte more, since a
@@ -52,4 +53,11 @@ fn words(heads: &[u32]) -> usize
     ensures { λ r. ⌜ r ≡ length (now (heads .entry)) ⌝ }
 {
     heads.len()
+}
+
+// A word as a number of bytes.
+fn wide(word: u32) -> usize
+    ensures { λ r. ⌜ r ≡ word ⌝ }
+{
+    word as usize
 }
