@@ -2,20 +2,20 @@
 use Prim.Native.Nat.{ℕ, zero, suc, _+_, _*_, _-_, _≤_, _<_}
 use mathlib.Core.Path.{_≡_, refl, ap, sym, _∙_}
 use mathlib.Core.Bool.{Bool, true, false, _&&_}
-use mathlib.Core.List.{List, [], _∷_, _++_}
+use mathlib.Core.List.{List, _++_}
 use native.Mathlib.Omega.{arith}
 use native.Mathlib.Decide.{decLe}
 use lib.ListN.{length, getD, take, drop, length-append}
 use lib.Dec.{leb}
 use borrow.Author.Tests.{le-leb, lt-leb, leb-true}
-use Rattle.model.specs.Tests.{pick, all}
+use Rattle.model.specs.Tests.{all}
 use Rattle.model.specs.Numbers.{maxFrame, maxOutbox}
 use Rattle.model.specs.Config.{tableWithin}
 use Rattle.model.specs.Frame.{Frame}
 use Rattle.model.specs.State.{frameValid}
 use Rattle.model.specs.Drain.{u16, u32, record1, records}
 use Rattle.uds.specs.Table.{tab}
-use Rattle.uds.proofs.Tab.{tab-cons, tab-end, tab-all, tab-length}
+use Rattle.uds.proofs.Tab.{tab-cons, tab-end, tab-length}
 use Rattle.queue.specs.Over.{over}
 use Rattle.queue.specs.Model.{drained, unmoved, written}
 use Rattle.queue.specs.View.{roomSize, Framed, frameAt, queueOf}

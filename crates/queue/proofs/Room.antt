@@ -1,5 +1,5 @@
 -- Laws of the lent room: its places, the queue that stands in it, and the reply that is made in the free place.
-use Prim.Native.Nat.{ℕ, suc, min, _*_, _+_, _-_, _≤_, _<_}
+use Prim.Native.Nat.{ℕ, min, _*_, _+_, _-_, _≤_, _<_}
 use mathlib.Core.Path.{_≡_, refl, ap, ap₂, sym, _∙_}
 use mathlib.Core.List.{List, [], _∷_, _++_, append-nil}
 use native.Mathlib.Omega.{arith}
@@ -9,12 +9,11 @@ use lib.Seq.{getD-set-same, getD-set-other, take-take, take-add, drop-drop}
 use borrow.Author.Tests.{lt-ltb, le-ltb, le-leb, lt-leb}
 use Rattle.model.specs.Numbers.{maxFrame, maxOutbox}
 use Rattle.model.specs.Frame.{Frame}
-use Rattle.uds.specs.Table.{tab}
 use Rattle.uds.proofs.Tab.{tab-same, tab-snoc, tab-length}
 use Rattle.model.specs.Service22.{going}
 use Rattle.queue.specs.declared.draft.Drafted.the-variants.{Going, TooLong}
 use Rattle.queue.specs.Over.{over}
-use Rattle.queue.specs.Model.{QueueStep, leaves, pushed}
+use Rattle.queue.specs.Model.{leaves, pushed}
 use Rattle.queue.specs.View.{roomSize, headsSize, bytesAt, frameAt, queueOf, placeOf, draftOf, Unseen, Stands, Drafts}
 use Rattle.queue.proofs.Over.{part, over-length, over-below, over-from, over-above}
 

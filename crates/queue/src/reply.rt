@@ -98,18 +98,18 @@ pub fn confirm(
     ensures { λ r. ⌜ stepOf r (now (heads .exit)) (now (room .exit)) ≡ confirmed maxFrame (modeOf functional) (queueOf count (now (heads .entry)) (now (room .entry))) to sid (draftOf count len (now (room .entry))) ⌝ }
 {
     super::size(room);
-    if super::MAX_FRAME <= len {
-        return refuse(
-            count,
-            heads,
-            room,
-            functional,
-            to,
-            sid,
-            Nrc::RESPONSE_TOO_LONG,
-        );
+    if len < super::MAX_FRAME {
+        return send(count, heads, room, to, uds::frame::response(sid), len);
     }
-    send(count, heads, room, to, uds::frame::response(sid), len)
+    refuse(
+        count,
+        heads,
+        room,
+        functional,
+        to,
+        sid,
+        Nrc::RESPONSE_TOO_LONG,
+    )
 }
 
 // What a service says, carried out.

@@ -1,8 +1,6 @@
 use Prim.Native.Nat.{_+_}
 use denote.Ref.{now}
-use mathlib.Core.Path.{_≡_}
 use native.Mathlib.Omega.{arith}
-use lib.ListN.{length}
 use Rattle.queue.proofs.Room.{too-long, grows}
 use borrow.Author.Needs.{needs}
 use Rattle.queue.proofs.draft.extend.Statement.{statement}

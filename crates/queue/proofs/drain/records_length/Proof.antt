@@ -8,7 +8,7 @@ use denote.Ref.{now}
 use lib.ListN.{length}
 use Rattle.model.specs.Drain.{records}
 use Rattle.uds.specs.Table.{tab}
-use Rattle.uds.proofs.Tab.{tab-all, tab-end}
+use Rattle.uds.proofs.Tab.{tab-all}
 use Rattle.queue.specs.View.{roomSize, frameAt, queueOf}
 use Rattle.queue.proofs.Records.{frame-length, left-length, nothing-left}
 use Rattle.queue.proofs.drain.records_length.Statement.{statement}

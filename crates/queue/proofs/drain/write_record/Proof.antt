@@ -1,5 +1,4 @@
 use denote.Ref.{now}
-use native.Mathlib.Omega.{arith}
 use Rattle.queue.proofs.Records.{record-written}
 use borrow.Author.Needs.{needs}
 use Rattle.queue.proofs.drain.write_record.Statement.{statement}

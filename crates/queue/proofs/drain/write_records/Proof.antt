@@ -1,17 +1,15 @@
 use Rattle.queue.proofs.Records.{frame-length, frame-part, left-length, write-turn, all-written}
 use borrow.Author.Needs.{needs}
-use Prim.Native.Nat.{ℕ, _+_, _*_, _≤_, _<_, _-_}
-use mathlib.Core.Path.{_≡_, refl, ap, sym, _∙_}
-use mathlib.Core.List.{List}
+use Prim.Native.Nat.{_+_, _≤_, _<_, _-_}
+use mathlib.Core.Path.{_≡_, refl, ap, sym}
 use native.Mathlib.Omega.{arith}
 use denote.Ref.{now}
 use lib.ListN.{length}
 use Rattle.model.specs.Drain.{records}
-use Rattle.model.specs.Frame.{Frame}
 use Rattle.uds.specs.Table.{tab}
 use Rattle.uds.proofs.Tab.{tab-all}
 use Rattle.queue.specs.Over.{over}
-use Rattle.queue.specs.View.{roomSize, frameAt, queueOf}
+use Rattle.queue.specs.View.{frameAt, queueOf}
 use Rattle.queue.proofs.drain.write_records.Statement.{statement}
 use Rattle.queue.proofs.drain.write_records.Tie as tie
 use Rattle.queue.proofs.drain.write_records.Reads as reads

@@ -18,7 +18,7 @@ words-requires c κs = search needs
 returns : tie.Need-returns
 returns c =
     let a = c .before .before .before .before .args in
-    record { step = λ room. push-full (a .count) (a .to) (a .len) (now (a .heads)) room (c .if1 .taken); size = search needs }
+    record { step = λ room. push-full (a .count) (a .to) (a .len) (now (a .heads)) room (omega arith); size = search needs }
 
 -- src/reply.rt:39:14
 mul-at : tie.Need-mul-at
@@ -57,7 +57,7 @@ returns-2 : tie.Need-returns-2
 returns-2 c =
     let a = c .before .before .before .before .args in
     let z : length (now (a .heads)) ≡ 32 = search needs in
-    record { step = λ room. push-free (a .count) (a .to) (a .len) (now (a .heads)) room (c .if1 .left) z; size = z }
+    record { step = λ room. push-free (a .count) (a .to) (a .len) (now (a .heads)) room (omega arith) z; size = z }
 
 pub push-spec : {M : Type 1} → statement M
 push-spec =
