@@ -16,7 +16,7 @@ use Rattle.queue.specs.declared.reply.Pushed.{Pushed}
 -- a frame that stands in the free place, pushed
 pub queues : {count to n : ℕ} {bytes heads heads' room room' : List ℕ} {r : Pushed} → Stands count bytes n room room' → Pushes count to n heads r heads'
     → stepOf r heads' room' ≡ pushed (queueOf count heads room) to bytes
-queues {to = to} {heads = h} {room' = m} s p = p .step m ∙ ap₂ (λ (q : List Frame) (b : List ℕ). pushed q to b) (s .unseen h (p .size)) (s .there)
+queues {to = to} {heads = h} {room' = m} s p = p .step m ∙ ap₂ (λ (q : List Frame) (b : List ℕ). pushed q to b) (s .unseen h) (s .there)
 
 -- a physical request hears every code
 pub unwithheld : (code : ℕ) → withheld physical code ≡ false

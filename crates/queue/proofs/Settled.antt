@@ -10,7 +10,7 @@ use Rattle.model.specs.State.{frameValid}
 use Rattle.model.specs.Service22.{readReply}
 use Rattle.uds.proofs.Tab.{tab-length}
 use Rattle.queue.specs.Model.{QueueStep, QueueDrain}
-use Rattle.queue.specs.View.{roomSize, headsSize, frameAt, queueOf, draftOf, stepOf, replyOf, readingOf, drainOf, Drafts}
+use Rattle.queue.specs.View.{roomSize, frameAt, queueOf, draftOf, stepOf, replyOf, readingOf, drainOf, Drafts}
 use Rattle.queue.specs.declared.draft.Drafted.{Drafted}
 use Rattle.queue.specs.declared.draft.Drafted.the-variants.{Going, TooLong}
 use Rattle.queue.specs.declared.drain.Drained.{Drained}
@@ -40,8 +40,8 @@ step-settled q r r' heads heads' room room' e e' =
 
 -- extend, put: the answer itself, the reply in the making where there is one, and the queue that is seen
 pub draft-settled : (count len : ℕ) (bytes before : List ℕ) (r r' : Drafted) (after after' : List ℕ) → length after ≡ roomSize → length after' ≡ roomSize → Drafts count len bytes before r after → Drafts count len bytes before r' after'
-    → (r ≡ r') × (readingOf r count after ≡ readingOf r' count after') × ((heads : List ℕ) → length heads ≡ headsSize → queueOf count heads after ≡ queueOf count heads after')
-draft-settled count len bytes before r r' after after' z z' d d' = (same r r' (d .reading ∙ sym (d' .reading)), d .reading ∙ sym (d' .reading), λ heads h. d .unseen heads h ∙ sym (d' .unseen heads h))
+    → (r ≡ r') × (readingOf r count after ≡ readingOf r' count after') × ((heads : List ℕ) → queueOf count heads after ≡ queueOf count heads after')
+draft-settled count len bytes before r r' after after' z z' d d' = (same r r' (d .reading ∙ sym (d' .reading)), d .reading ∙ sym (d' .reading), λ heads. d .unseen heads ∙ sym (d' .unseen heads))
   where
     same : (x y : Drafted) → readingOf x count after ≡ readingOf y count after' → x ≡ y
     same (Going m) (Going n) e = let k : draftOf count m after ≡ draftOf count n after' = cc in ap Going (sym (draft-length count m after z) ∙ ap length k ∙ draft-length count n after' z')

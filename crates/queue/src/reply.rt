@@ -30,10 +30,10 @@ fn push(count: u8, heads: &mut Heads, to: u32, len: usize) -> Pushed
     requires { ⌜ len ≤ 256 ⌝ }
     ensures { λ r. ⌜ Pushes count to len (now (heads .entry)) r (now (heads .exit)) ⌝ }
 {
-    super::words(heads);
     if super::OUTBOX <= count {
         return Pushed { result: 3, count };
     }
+    super::words(heads);
     let at = 2 * (count as usize);
     heads[at] = to;
     heads[at + 1] = len as u32;
