@@ -10,8 +10,9 @@ use Rattle.model.specs.Frame.{Frame, positiveFrame, negativeFrame}
 use Rattle.model.specs.State.{AddressMode, physical}
 use Rattle.model.specs.Reply.{withheld}
 use Rattle.queue.specs.Model.{leaves, pushed, refused, confirmed, sent}
-use Rattle.queue.specs.View.{queueOf, stepOf, Pushes, Stands}
+use Rattle.queue.specs.View.{queueOf, stepOf, Pushes}
 use Rattle.queue.specs.declared.reply.Pushed.{Pushed}
+use Rattle.queue.proofs.Room.{Stands}
 
 -- a frame that stands in the free place, pushed
 pub queues : {count to n : ℕ} {bytes heads heads' room room' : List ℕ} {r : Pushed} → Stands count bytes n room room' → Pushes count to n heads r heads'

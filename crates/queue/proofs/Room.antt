@@ -9,12 +9,12 @@ use lib.Seq.{getD-set-same, getD-set-other, take-take, take-add, take-all, drop-
 use borrow.Author.Tests.{lt-ltb, le-ltb, le-leb, lt-leb}
 use Rattle.model.specs.Numbers.{maxFrame, maxOutbox}
 use Rattle.model.specs.Frame.{Frame}
-use Rattle.uds.proofs.Tab.{tab-same, tab-snoc, tab-length}
 use Rattle.model.specs.Service22.{going}
+use Rattle.uds.proofs.Tab.{tab-same, tab-snoc, tab-length}
 use Rattle.queue.specs.declared.draft.Drafted.the-variants.{Going, TooLong}
 use Rattle.queue.specs.Over.{over}
 use Rattle.queue.specs.Model.{leaves, pushed}
-use Rattle.queue.specs.View.{roomSize, headsSize, headAt, bytesAt, frameAt, queueOf, placeOf, draftOf, Unseen, Stands, Drafts}
+use Rattle.queue.specs.View.{roomSize, headsSize, headAt, bytesAt, frameAt, queueOf, placeOf, draftOf, Unseen, Drafts}
 use Rattle.queue.proofs.Over.{part, over-length, over-below, over-from, over-above}
 
 abbrev pub frame : ℕ → List ℕ → Frame
@@ -50,6 +50,11 @@ unseen count room at xs z p q heads =
         agree (over room at xs) room (maxFrame * i) (headAt heads (2 * i + 1)) (placeOf count) (omega (arith, over-length room at xs (omega arith))) (omega arith) (omega arith)
         (over-below room at xs (omega arith) (placeOf count) p)
     same i s (no d) = let e : headAt heads (2 * i + 1) ≡ 0 = List·getD-eq-default (take headsSize heads) 0 {n = 2 * i + 1} (omega (arith, length-take headsSize heads)) in rw e
+
+-- bytes that stand in the free place, which nothing shows yet
+pub record Stands (count : ℕ) (bytes : List ℕ) (n : ℕ) (before after : List ℕ) : Type 0 where
+  pub there : bytesAt after (placeOf count) n ≡ bytes
+  pub unseen : Unseen count before after
 
 module _ (count at : ℕ) (room after : List ℕ) (z : length room ≡ roomSize) (p : at ≡ placeOf count) where
   -- bytes put in the free place stand there

@@ -72,11 +72,6 @@ pub record Pushes (count to len : ℕ) (before : List ℕ) (r : Pushed) (after :
 abbrev pub Unseen : ℕ → List ℕ → List ℕ → Type 0
 Unseen count before after = (heads : List ℕ) → queueOf count heads after ≡ queueOf count heads before
 
--- bytes that stand in the free place, which nothing shows yet
-pub record Stands (count : ℕ) (bytes : List ℕ) (n : ℕ) (before after : List ℕ) : Type 0 where
-  pub there : bytesAt after (placeOf count) n ≡ bytes
-  pub unseen : Unseen count before after
-
 -- what appending to a reply in the making answers
 abbrev pub readingOf : Drafted → ℕ → List ℕ → Reading
 readingOf (Going len) count room = going (draftOf count len room)

@@ -1,11 +1,11 @@
 // What a service says, queued: positive and negative frames, and the rule of functional requests.
 ghost use mathlib.Core.Path.{_≡_};
 ghost use Prim.Native.Nat.{_≤_};
-ghost use mathlib.Core.List.{[], _∷_};
-ghost use Rattle.model.specs.Frame.{negativeFrame, positiveFrame};
+ghost use mathlib.Core.List.{_∷_};
+ghost use Rattle.model.specs.Frame.{negativeFrame};
 ghost use Rattle.model.specs.Numbers.{maxFrame};
 ghost use Rattle.queue.specs.Model.{pushed, refused, confirmed, answered, sent};
-ghost use Rattle.queue.specs.View.{queueOf, draftOf, modeOf, replyOf, stepOf, Pushes, Stands};
+ghost use Rattle.queue.specs.View.{queueOf, draftOf, modeOf, replyOf, stepOf, Pushes};
 use super::Heads;
 use super::Room;
 use uds::nrc::Nrc;

@@ -2,38 +2,28 @@ use mathlib.Core.Path.{refl}
 use borrow.Author.Needs.{needs}
 use Rattle.queue.proofs.drain.header.Statement.{statement}
 use Rattle.queue.proofs.drain.header.Tie as tie
-use Rattle.queue.proofs.drain.header.Reads as reads
-use Rattle.queue.proofs.drain.header.Lts as lts
 
--- src/drain.rt:73:16
 add-rest : tie.Need-add-rest
 add-rest c = search needs
 
--- src/drain.rt:75:9
 cast-t5 : tie.Need-cast-t5
 cast-t5 c = search needs
 
--- src/drain.rt:76:9
 cast-t8 : tie.Need-cast-t8
 cast-t8 c = search needs
 
--- src/drain.rt:79:9
 cast-t10 : tie.Need-cast-t10
 cast-t10 c = search needs
 
--- src/drain.rt:80:9
 cast-t13 : tie.Need-cast-t13
 cast-t13 c = search needs
 
--- src/drain.rt:81:9
 cast-t16 : tie.Need-cast-t16
 cast-t16 c = search needs
 
--- src/drain.rt:82:9
 cast-t19 : tie.Need-cast-t19
 cast-t19 c = search needs
 
--- src/drain.rt:69:1
 returns : tie.Need-returns
 returns c = refl
 

@@ -2,36 +2,26 @@ use Prim.Native.Nat.{ℕ}
 use mathlib.Core.Path.{_≡_, ap, _∙_}
 use mathlib.Core.List.{_∷_}
 use native.Mathlib.Omega.{arith}
-use lib.ListN.{length}
 use denote.Ref.{now}
+use lib.ListN.{length}
+use borrow.Author.Needs.{needs}
 use Rattle.model.specs.Numbers.{maxFrame}
 use Rattle.queue.specs.Model.{sent}
 use Rattle.queue.specs.View.{modeOf, queueOf, draftOf}
 use Rattle.queue.proofs.Room.{draft-length}
 use Rattle.queue.proofs.Laws.{confirmed-short, confirmed-long}
-use borrow.Author.Needs.{needs}
 use Rattle.queue.proofs.reply.confirm.Statement.{statement}
 use Rattle.queue.proofs.reply.confirm.Tie as tie
-use Rattle.queue.proofs.reply.confirm.Reads as reads
-use Rattle.queue.proofs.reply.confirm.Lts as lts
-use Rattle.queue.proofs.reply.refuse.Reads as refuse-reads
-use Rattle.queue.proofs.reply.send.Reads as send-reads
-use Rattle.queue.proofs.size.Reads as size-reads
-use Rattle.uds.proofs.frame.response.Reads as response-reads
 
--- src/reply.rt:100:5
 size-requires : tie.Need-size-requires
 size-requires c κs = search needs
 
--- src/reply.rt:102:45
 response-requires : tie.Need-response-requires
 response-requires c κs = search needs
 
--- src/reply.rt:102:9
 send-requires : tie.Need-send-requires
 send-requires c κs = search needs
 
--- src/reply.rt:102:9
 returns : tie.Need-returns
 returns c =
     let a = c .before .before .before .before .before .before .before .before .args in
@@ -41,11 +31,9 @@ returns c =
     c .send .ensures ∙ ap (λ (b : ℕ). sent maxFrame q (a .to) (b ∷ d)) (c .before .response .ensures)
     ∙ confirmed-short (modeOf (a .functional)) q (a .to) (a .sid) d (omega (arith, draft-length (a .count) (a .len) (now (a .room)) z))
 
--- src/reply.rt:104:5
 refuse-requires : tie.Need-refuse-requires
 refuse-requires c κs = search needs
 
--- src/reply.rt:89:1
 returns-2 : tie.Need-returns-2
 returns-2 c =
     let a = c .before .before .before .before .before .before .before .args in
