@@ -6,18 +6,21 @@ use mathlib.Core.List.{List}
 use mathlib.Core.Option.{Option, some, none, Option·map, Option·none-ne-some}
 use native.Mathlib.Omega.{arith}
 use lib.Dec.{eqb}
-use borrow.Author.Tests.{eqb-true}
-use Rattle.model.specs.Tests.{pick, place}
+use borrow.Author.Tests.{eqb-true, eqb-false, le-leb, lt-leb}
+use Rattle.model.specs.Tests.{pick, place, all, without}
 use Rattle.model.specs.Numbers.{maxPeriodic}
-use Rattle.model.specs.State.{Subscription}
+use Rattle.model.specs.Config.{tableWithin}
+use Rattle.model.specs.State.{Subscription, subscriptionValid}
 use Rattle.model.specs.Service2A.{isSubscription, subscription, renewed}
+use Rattle.model.specs.Tick.{advanced}
 use Rattle.uds.specs.declared.table.Found.{Found}
 use Rattle.uds.specs.declared.table.Found.the-variants.{At, Nothing}
 use Rattle.uds.specs.Table.{tab, placeOf}
 use Rattle.uds.specs.Clock.{later}
+use Rattle.uds.proofs.Tab.{tab-same, tab-length}
 use Rattle.periodic.specs.declared.Registered.{Registered}
 use Rattle.periodic.specs.declared.Registered.the-variants.{Stands, Full}
-use Rattle.periodic.specs.View.{entryAt, tableOf, starts, Puts, Registers}
+use Rattle.periodic.specs.View.{entryAt, tableOf, starts, advancedAt, Puts, Registers, Cancels, Advances}
 use Rattle.periodic.proofs.Tables.{enter-known, enter-new, enter-full}
 
 -- the row at a place passes the test, and stands in the table
@@ -108,3 +111,48 @@ module _ (w : List ℕ) (count x client interval t : ℕ) where
         full = λ q. absurd (not-full (count + 1) (sym q));
         room = λ n q. let q : count + 1 ≡ n = cc in omega arith;
       }
+
+-- cancelling
+module _ (w : List ℕ) (count x client : ℕ) where
+  pub cancel-beyond : maxPeriodic < count → Cancels w count x client count w
+  cancel-beyond h = record { table = λ l. absurd (omega arith); beyond = λ l. refl; as-many = λ l. refl; fewer = omega arith }
+
+  pub cancel-kept : (kept : ℕ) (after : List ℕ) → count ≤ maxPeriodic → kept ≤ count → tableOf kept after ≡ without (isSubscription x client) (tableOf count w) → Cancels w count x client kept after
+  cancel-kept kept after h l e = record { table = λ l. e; beyond = λ l. absurd (omega arith); as-many = λ l. absurd (omega arith); fewer = l }
+
+-- advancing
+module _ (w : List ℕ) (count i t : ℕ) where
+  rows : (after : List ℕ) → ((j : ℕ) → j < count → j ≡ i → entryAt after j ≡ advanced (starts t (entryAt w j .interval)) (entryAt w j))
+      → ((j : ℕ) → (j ≡ i → ⊥) → entryAt after j ≡ entryAt w j) → tableOf count after ≡ tab (advancedAt i t (entryAt w)) 0 count
+  rows after here others = tab-same (entryAt after) (advancedAt i t (entryAt w)) 0 count (λ j a b. row j (omega arith) (eqb j i) refl)
+    where
+      row : (j : ℕ) → j < count → (b : Bool) → eqb j i ≡ b → entryAt after j ≡ pick b (advanced (starts t (entryAt w j .interval)) (entryAt w j)) (entryAt w j)
+      row j l true e = here j l (eqb-true j i e)
+      row j l false e = others j (eqb-false j i e)
+
+  pub advance-beyond : maxPeriodic < count → Advances w count i t w
+  advance-beyond h = record { table = λ l. absurd (omega arith); here = λ l. absurd (omega arith); others = λ j n. refl; beyond = λ l. refl; past = λ l. refl }
+
+  pub advance-past : count ≤ i → Advances w count i t w
+  advance-past h = record { table = λ l. rows w (λ j a b. absurd (omega arith)) (λ j n. refl); here = λ l k. absurd (omega arith); others = λ j n. refl; beyond = λ l. refl; past = λ l. refl }
+
+  pub advance-here : (e : Subscription) (next : ℕ) (after : List ℕ) → count ≤ maxPeriodic → i < count → e ≡ entryAt w i → e .interval < 2 ^ 64 → next ≡ later t (e .interval)
+      → Puts w i (entered (e .identifier) (e .client) (e .interval) next) after → Advances w count i t after
+  advance-here e next after h k is fits late puts = record {
+    table = λ l. rows after (λ j a b. rw b here) (puts .others);
+    here = λ l q. here;
+    others = puts .others;
+    beyond = λ l. absurd (omega arith);
+    past = λ l. absurd (omega arith);
+  }
+    where
+      here : entryAt after i ≡ advanced (starts t (entryAt w i .interval)) (entryAt w i)
+      here = puts .here ∙ rw (in-time t (e .interval) next fits late) (ap (λ (e : Subscription). advanced (starts t (e .interval)) e) is)
+
+-- a valid table
+module _ (w : List ℕ) (count : ℕ) where
+  pub valid-beyond : maxPeriodic < count → false ≡ tableWithin maxPeriodic subscriptionValid (tableOf count w)
+  valid-beyond h = rw (tab-length (entryAt w) 0 count, lt-leb count maxPeriodic h)
+
+  pub valid-within : (b : Bool) → count ≤ maxPeriodic → b ≡ all subscriptionValid (tableOf count w) → b ≡ tableWithin maxPeriodic subscriptionValid (tableOf count w)
+  valid-within b h e = rw (tab-length (entryAt w) 0 count, le-leb count maxPeriodic h) e

@@ -5,8 +5,8 @@ use mathlib.Core.Bool.{Bool, _&&_}
 use mathlib.Core.List.{List}
 use mathlib.Core.Option.{Option, some, none}
 use lib.ListN.{getD}
-use lib.Dec.{leb, ltb}
-use Rattle.model.specs.Tests.{without}
+use lib.Dec.{eqb, leb, ltb}
+use Rattle.model.specs.Tests.{pick, without}
 use Rattle.model.specs.Numbers.{Moment, Span, maxPeriodic}
 use Rattle.model.specs.State.{Subscription}
 use Rattle.model.specs.Service2A.{isSubscription, register}
@@ -53,3 +53,26 @@ pub record Registers (before : List ℕ) (count x client : ℕ) (interval : Span
   pub beyond : maxPeriodic < count → r ≡ Full
   pub full : r ≡ Full → after ≡ before
   pub room : (n : ℕ) → r ≡ Stands n → n ≤ maxPeriodic
+
+-- cancelling is the definition's, and leaves no more than stood
+pub record Cancels (before : List ℕ) (count x client r : ℕ) (after : List ℕ) : Type 0 where
+  pub table : count ≤ maxPeriodic → tableOf r after ≡ without (isSubscription x client) (tableOf count before)
+  pub beyond : maxPeriodic < count → after ≡ before
+  pub as-many : maxPeriodic < count → r ≡ count
+  pub fewer : r ≤ count
+
+-- entry i stands, and its moment has come
+abbrev pub dueAt : ℕ → List ℕ → ℕ → Moment → Bool
+dueAt count w i t = ltb i count && leb (entryAt w i .next) t
+
+-- the rows with row i advanced
+abbrev pub advancedAt : ℕ → Moment → (ℕ → Subscription) → ℕ → Subscription
+advancedAt i t f j = pick (eqb j i) (advanced (starts t (f j .interval)) (f j)) (f j)
+
+-- an entry that stands is advanced by its own interval and the others are as they were, in a table of at most so many; else nothing is changed
+pub record Advances (before : List ℕ) (count i : ℕ) (t : Moment) (after : List ℕ) : Type 0 where
+  pub table : count ≤ maxPeriodic → tableOf count after ≡ tab (advancedAt i t (entryAt before)) 0 count
+  pub here : count ≤ maxPeriodic → i < count → entryAt after i ≡ advanced (starts t (entryAt before i .interval)) (entryAt before i)
+  pub others : (j : ℕ) → (j ≡ i → ⊥) → entryAt after j ≡ entryAt before j
+  pub beyond : maxPeriodic < count → after ≡ before
+  pub past : count ≤ i → after ≡ before
