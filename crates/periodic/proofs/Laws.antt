@@ -1,7 +1,7 @@
 -- One law for each way out of a function.
 use Prim.Native.Nat.{ℕ, zero, suc, _+_, _-_, _^_, _≤_, _<_}
 use mathlib.Core.Path.{_≡_, refl, ap, ap₂, sym, _∙_}
-use mathlib.Core.Bool.{Bool, true, false, _&&_, false≢true}
+use mathlib.Core.Bool.{Bool, true, false}
 use mathlib.Core.List.{List}
 use mathlib.Core.Option.{Option, some, none, Option·map, Option·none-ne-some}
 use native.Mathlib.Omega.{arith}
@@ -13,6 +13,7 @@ use Rattle.model.specs.Config.{tableWithin}
 use Rattle.model.specs.State.{Subscription, subscriptionValid}
 use Rattle.model.specs.Service2A.{isSubscription, subscription, renewed}
 use Rattle.model.specs.Tick.{advanced}
+use Rattle.model.proofs.Laws.{left, right}
 use Rattle.uds.specs.declared.table.Found.{Found}
 use Rattle.uds.specs.declared.table.Found.the-variants.{At, Nothing}
 use Rattle.uds.specs.Table.{tab, placeOf}
@@ -68,11 +69,7 @@ in-time t interval next fits late = omega arith
 
 -- an entry that passes the test has the identifier and the client
 is-it : (x client : ℕ) (e : Subscription) → isSubscription x client e ≡ true → (e .identifier ≡ x) × (e .client ≡ client)
-is-it x client e h = let b = both (eqb (e .identifier) x) (eqb (e .client) client) h in (eqb-true (e .identifier) x (b .0), eqb-true (e .client) client (b .1))
-  where
-    both : (a b : Bool) → (a && b) ≡ true → (a ≡ true) × (b ≡ true)
-    both true b h = (refl, h)
-    both false b h = absurd (false≢true h)
+is-it x client e h = (eqb-true (e .identifier) x (left (eqb (e .identifier) x) (eqb (e .client) client) h), eqb-true (e .client) client (right (eqb (e .identifier) x) (eqb (e .client) client) h))
 
 -- registering
 module _ (w : List ℕ) (count x client interval t : ℕ) where

@@ -216,9 +216,10 @@ pub fn subscriptions_valid(subs: &Subscriptions, count: u8) -> bool
     if MAX_PERIODIC < count {
         return false;
     }
-    let mut i: u8 = 0;
-    while i < count {
-        if !entry_valid(entry_at(subs, i as usize)) {
+    let n = count as usize;
+    let mut i: usize = 0;
+    while i < n {
+        if !entry_valid(entry_at(subs, i)) {
             return false;
         }
         i += 1;
