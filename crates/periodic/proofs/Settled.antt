@@ -1,9 +1,9 @@
 -- Nothing else meets the promises: two answers that meet one are equal in all that it speaks of.
-use Prim.Native.Nat.{ℕ, _≤_, _<_}
+use Prim.Native.Nat.{ℕ, _<_}
 use mathlib.Core.Path.{_≡_, refl, ap, ap₂, sym, _∙_}
 use mathlib.Core.Bool.{Bool, true, false}
 use mathlib.Core.List.{List, []}
-use mathlib.Core.Option.{Option, some, none, Option·none-ne-some, Option·some-ne-none}
+use mathlib.Core.Option.{Option, Option·none-ne-some, Option·some-ne-none}
 use native.Mathlib.Decide.{decLe}
 use native.Mathlib.Omega.{arith}
 use lib.ListN.{length}
