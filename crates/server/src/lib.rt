@@ -1,0 +1,2 @@
+// The server: what it holds, and its calls.
+pub mod security;
