@@ -10,15 +10,15 @@ use lib.ListN.{length, take, set}
 use lib.Seq.{getD-set-same, getD-set-other, take-suc}
 use lib.Dec.{ltb}
 use borrow.Author.Tests.{lt-ltb, le-ltb, le-leb, lt-leb}
-use Rattle.model.specs.Tests.{pick, place, enter}
+use Rattle.model.specs.Tests.{pick, all, place, enter}
 use Rattle.model.specs.Numbers.{maxLevels}
-use Rattle.model.specs.State.{Failed, Lock, Security, cleared}
+use Rattle.model.specs.State.{Failed, Lock, Security, cleared, momentValid, lockValid, securityValid}
 use Rattle.model.specs.Service27.{isFailed, isLock, holds, countOf, locked, failedCount, raise, forget, relock, incrementFailed, setLockout}
 use Rattle.model.proofs.FirstRow.{found}
 use Rattle.uds.specs.Table.{tab, isKey, placeOf, rowOf, Finds}
 use Rattle.uds.specs.declared.table.Found.{Found}
 use Rattle.uds.specs.declared.table.Found.the-variants.{At, Nothing}
-use Rattle.uds.proofs.Tab.{finds, tab-length, tab-same, tab-snoc}
+use Rattle.uds.proofs.Tab.{finds, tab-length, tab-same, tab-snoc, all-same}
 use Rattle.server.specs.View.{entry, failedAt, lockAt, securityOf, withFailed, withLocks, Counts, Enters, FirstFailed, FirstLock, Resets, Seeds}
 use Rattle.server.specs.declared.security.Entered.{Entered}
 use Rattle.server.proofs.Tables.{any-none, change-at, change-none, enter-known}
@@ -206,3 +206,24 @@ module _ (k d : SecurityState) (level : ℕ) (seed : List ℕ) (e : securityOf d
   pub seed-held : (bytes : List ℕ) → tab (entry bytes) 0 (length seed) ≡ seed → length seed ≤ 32
       → Seeds k level seed (record { untils = d .untils; seed = bytes; «failed_levels» = d .«failed_levels»; «failed_counts» = d .«failed_counts»; «lock_levels» = d .«lock_levels»; «seed_len» = length seed; «seed_level» = level; failed = d .failed; locks = d .locks })
   seed-held bytes f h = record { state = rw (le-leb (length seed) 32 h) (ap₂ (λ (s : List ℕ) (x : Security). record { seed = s; seedLevel = level; failed = x .failed; locks = x .locks }) f e) }
+
+-- a security state that keeps its numbers, and the three that do not
+module _ (k : SecurityState) where
+  pub valid-by-locks : k .«seed_len» ≤ 32 → k .failed ≤ 8 → k .locks ≤ 8 → all momentValid (tab (entry (k .untils)) 0 (k .locks)) ≡ securityValid (securityOf k)
+  unfolding securityValid
+  valid-by-locks a b d =
+      rw (tab-length (entry (k .seed)) 0 (k .«seed_len»), tab-length (failedAt k) 0 (k .failed), tab-length (lockAt k) 0 (k .locks), le-leb (k .«seed_len») 32 a, le-leb (k .failed) 8 b, le-leb (k .locks) 8 d)
+      (sym (all-same lockValid (lockAt k) momentValid (entry (k .untils)) 0 (k .locks) (λ i. refl)))
+
+  pub seed-invalid : 32 < k .«seed_len» → false ≡ securityValid (securityOf k)
+  unfolding securityValid
+  seed-invalid h = rw (tab-length (entry (k .seed)) 0 (k .«seed_len»), lt-leb (k .«seed_len») 32 h)
+
+  pub failed-invalid : k .«seed_len» ≤ 32 → 8 < k .failed → false ≡ securityValid (securityOf k)
+  unfolding securityValid
+  failed-invalid a h = rw (tab-length (entry (k .seed)) 0 (k .«seed_len»), tab-length (failedAt k) 0 (k .failed), le-leb (k .«seed_len») 32 a, lt-leb (k .failed) 8 h)
+
+  pub locks-invalid : k .«seed_len» ≤ 32 → k .failed ≤ 8 → 8 < k .locks → false ≡ securityValid (securityOf k)
+  unfolding securityValid
+  locks-invalid a b h =
+      rw (tab-length (entry (k .seed)) 0 (k .«seed_len»), tab-length (failedAt k) 0 (k .failed), tab-length (lockAt k) 0 (k .locks), le-leb (k .«seed_len») 32 a, le-leb (k .failed) 8 b, lt-leb (k .locks) 8 h)

@@ -3,13 +3,16 @@ ghost use mathlib.Core.Path.{_≡_};
 ghost use Prim.Native.Nat.{_≤_, _+_, min};
 ghost use mathlib.Core.Option.{Option·map};
 ghost use lib.ListN.{length};
-ghost use Rattle.model.specs.Tests.{place, changeFirst};
+ghost use Rattle.model.specs.Tests.{place, all};
 ghost use Rattle.model.specs.State as Model;
 ghost use Rattle.model.specs.Service27 as Rules;
 ghost use Rattle.uds.specs.Table.{tab, isKey, placeOf};
 ghost use Rattle.server.specs.View.{entry, securityOf, withFailed, withLocks, Counts, Seeds, Enters, FirstFailed, FirstLock, Resets};
 use uds::clock::Instant;
 use uds::table::Found;
+
+// The last moment that a state may hold: 2^48 and 2^32 milliseconds.
+pub const MAX_MOMENT: u64 = 0x1_0001_0000_0000;
 
 // Widest first, so that a copy has no padding to move.
 #[repr(C)]
@@ -71,6 +74,22 @@ fn filled(seed: &[u8]) -> [u8; 32]
         i += 1;
     }
     bytes
+}
+
+// No lock ends later than a span after the last moment that is taken.
+fn locks_valid(untils: &[u64; 8], n: u8) -> bool
+    requires { ⌜ n ≤ 8 ⌝ }
+    ensures { λ r. ⌜ r ≡ all Model.momentValid (tab (entry (now (untils .entry))) 0 n) ⌝ }
+{
+    let rows = n as usize;
+    let mut i: usize = 0;
+    while i < rows {
+        if MAX_MOMENT < untils[i] {
+            return false;
+        }
+        i += 1;
+    }
+    true
 }
 
 impl SecurityState {
@@ -237,5 +256,22 @@ impl SecurityState {
             room: true,
             security: next,
         }
+    }
+
+    // Lengths and moments keep their numbers.
+    pub fn is_valid(self) -> bool
+        ensures { λ r. ⌜ r ≡ Model.securityValid (securityOf self) ⌝ }
+    {
+        if 32 < self.seed_len {
+            return false;
+        }
+        if 8 < self.failed {
+            return false;
+        }
+        if 8 < self.locks {
+            return false;
+        }
+        let untils = self.untils;
+        locks_valid(&untils, self.locks)
     }
 }
