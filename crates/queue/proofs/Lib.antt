@@ -1,0 +1,7 @@
+pub mod Emptied
+pub mod Laws
+pub mod Over
+pub mod Records
+pub mod Replied
+pub mod Room
+pub mod Settled
