@@ -1,0 +1,4 @@
+pub mod Tables
+pub mod Without
+pub mod Words
+pub mod Laws
