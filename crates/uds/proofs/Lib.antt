@@ -1,5 +1,5 @@
 pub mod Bits
 pub mod Lists
 pub mod Tab
-pub mod Within
 pub mod Readings
+pub mod Paste

@@ -1,12 +1,12 @@
 -- Laws of a tabulated table and of a walk over it, stated once over the row type, the rows f and the test p.
-use Prim.Native.Nat.{ℕ, zero, suc, _+_, _-_, _*_, _/_, _^_, _≤_, _<_, min}
+use Prim.Native.Nat.{ℕ, zero, suc, _+_, _-_, _*_, _/_, _≤_, _<_, min}
 use mathlib.Core.Path.{_≡_, refl, ap, ap₂, _∙_, sym}
 use mathlib.Core.Option.{Option, some, none, Option·map}
 use mathlib.Core.Bool.{Bool, true, false, _&&_}
 use mathlib.Core.List.{List, [], _∷_, _++_}
 use native.Mathlib.Omega.{arith}
 use native.Mathlib.Numerals.{add-one}
-use native.Mathlib.Nat.{add-mul, one-mul, mul-le-mul-right, div-lt-iff-lt-mul, lt-of-not-le}
+use native.Mathlib.Nat.{add-mul, one-mul, div-lt-iff-lt-mul, lt-of-not-le}
 use native.Mathlib.Decide.{decLe}
 use lib.ListN.{length, getD, List·getD-eq-default}
 use lib.Dec.{eqb}
@@ -99,10 +99,6 @@ module _ {B : Type 0} (f : ℕ → B) (p : B → Bool) (m i : ℕ) (whole : Bool
 pub next-row : (i step : ℕ) → (i + 1) * step ≡ i * step + step
 next-row i step = add-mul i 1 step ∙ rw (one-mul step)
 
-pub next-fits : (from i step rows : ℕ) → i < rows → from + rows * step < 2 ^ 64 → from + i * step + step < 2 ^ 64
-next-fits from i step rows p q =
-    let m : (i + 1) * step ≤ rows * step = mul-le-mul-right step (omega arith) in omega (arith, next-row i step)
-
 -- a row number and the end of the words
 pub outside : (n step i : ℕ) → 0 < step → n / step < i → n < i * step
 outside n step i p h = div-lt-iff-lt-mul p .0 h
@@ -110,9 +106,15 @@ outside n step i p h = div-lt-iff-lt-mul p .0 h
 pub inside : (n step i : ℕ) → 0 < step → i ≤ n / step → i * step ≤ n
 inside n step i p h = elim (decLe (i * step) n) [ yes l ↦ l | no l ↦ absurd (let k : n / step < i = div-lt-iff-lt-mul p .1 (lt-of-not-le l) in omega arith) ]
 
--- the word that a walk reads is the row's
-pub read-row : (w : List ℕ) (from step i at r : ℕ) → at ≡ from + i * step → r ≡ getD w at 0 → column w from step i ≡ r
-read-row w from step i at r p e = rw (← p) (sym e)
+-- the word that a walk reads, at a place that stops at the end, is the row's
+clamped : (w : List ℕ) (x : ℕ) → getD w (min x (length w)) 0 ≡ getD w x 0
+clamped w x = elim (decLe (length w) x) [
+  | yes p ↦ (let e : min x (length w) ≡ length w = omega arith in rw e (List·getD-eq-default w 0 (omega arith) ∙ sym (List·getD-eq-default w 0 p)))
+  | no p ↦ (let q : x < length w = lt-of-not-le p in let e : min x (length w) ≡ x = omega arith in rw e)
+]
+
+pub read-row : (w : List ℕ) (from step i at r : ℕ) → at ≡ min (from + i * step) (length w) → r ≡ getD w at 0 → column w from step i ≡ r
+read-row w from step i at r p e = sym (e ∙ ap (λ (x : ℕ). getD w x 0) p ∙ clamped w (from + i * step))
 
 -- two tables whose rows pass or fail alike have their first at the same place
 pub place-same : {A B : Type 0} (p : A → Bool) (q : B → Bool) (f : ℕ → A) (g : ℕ → B) (k n : ℕ) → ((i : ℕ) → p (f i) ≡ q (g i)) → place p (tab f k n) ≡ place q (tab g k n)

@@ -1,4 +1,4 @@
 pub mod Clock
 pub mod Table
-pub mod View
 pub mod Values
+pub mod Rows

@@ -1,6 +1,6 @@
 // The value table: lent rows of four words (identifier, error byte, start, length) over a lent pool of bytes.
 ghost use mathlib.Core.Path.{_≡_};
-ghost use Prim.Native.Nat.{_/_};
+ghost use Prim.Native.Nat.{_/_, _%_};
 ghost use lib.ListN.{length};
 ghost use Rattle.model.specs.Values as Model;
 ghost use Rattle.uds.specs.Table.{rowOf, Finds};
@@ -20,10 +20,24 @@ const START: usize = 2;
 
 const LEN: usize = 3;
 
+// What a row reads as that is not there, or that does not lie where and as it should.
+const MISSING: u8 = Nrc::CONDITIONS_NOT_CORRECT;
+
+const OUTSIDE: u8 = Nrc::CONDITIONS_NOT_CORRECT;
+
+const TOO_LONG: u8 = Nrc::CONDITIONS_NOT_CORRECT;
+
 // What the table says of an identifier: bytes, by their place in the pool, or an error byte.
 pub enum Outcome {
     Bytes { start: usize, len: usize },
     Error(u8),
+}
+
+// An error byte is the low byte of its word.
+fn low_byte(x: u32) -> u8
+    ensures { λ r. ⌜ r ≡ x % 256 ⌝ }
+{
+    (x % 256) as u8
 }
 
 pub fn find_value(values: &[u32], identifier: u16) -> Found
@@ -44,19 +58,20 @@ pub fn row_value(values: &[u32], pool: &[u8], row: Found, limit: usize) -> Outco
     ensures { λ r. ⌜ Says (now (pool .entry)) limit (Model.rowValue limit (now (pool .entry)) (rowOf (valueAt (now (values .entry))) row)) r ⌝ }
 {
     let Found::At(i) = row else {
-        return Outcome::Error(Nrc::CONDITIONS_NOT_CORRECT);
+        return Outcome::Error(MISSING);
     };
+    let err = low_byte(cell(values, ERR, ROW_WORDS, i));
     let start = cell(values, START, ROW_WORDS, i) as usize;
     let len = cell(values, LEN, ROW_WORDS, i) as usize;
-    if pool.len() < start + len {
-        return Outcome::Error(Nrc::CONDITIONS_NOT_CORRECT);
+    let end = start + len;
+    if pool.len() < end {
+        return Outcome::Error(OUTSIDE);
     }
     if limit < len {
-        return Outcome::Error(Nrc::CONDITIONS_NOT_CORRECT);
+        return Outcome::Error(TOO_LONG);
     }
-    let err = cell(values, ERR, ROW_WORDS, i) % 256;
     if err != 0 {
-        return Outcome::Error(err as u8);
+        return Outcome::Error(err);
     }
     Outcome::Bytes { start, len }
 }

@@ -1,3 +1,4 @@
+-- The high byte, shifted, leaves room for the low one.
 use Prim.Native.Nat.{_*_, _%_}
 use mathlib.Core.Path.{_≡_}
 use native.Mathlib.Omega.{arith}

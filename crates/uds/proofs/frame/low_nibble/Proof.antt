@@ -1,3 +1,4 @@
+-- The mask leaves the low four bits.
 use lib.Bits.{and-mask}
 use Rattle.uds.proofs.frame.low_nibble.Statement.{statement}
 use Rattle.uds.proofs.frame.low_nibble.Tie as tie

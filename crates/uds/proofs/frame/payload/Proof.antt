@@ -1,3 +1,4 @@
+-- An empty frame has no first byte to leave out.
 use Prim.Native.Nat.{_-_}
 use native.Mathlib.Omega.{arith}
 use lib.ListN.{length, drop, length-drop}

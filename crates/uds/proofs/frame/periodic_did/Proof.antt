@@ -1,3 +1,4 @@
+-- A byte or-ed into the low half is added.
 use Prim.Native.Nat.{_%_}
 use mathlib.Core.Path.{_≡_}
 use native.Mathlib.Omega.{arith}

@@ -1,3 +1,4 @@
+-- The bit is added where it is not set.
 use Rattle.model.specs.Frame.{response}
 use Rattle.uds.proofs.Bits.{bit6-set}
 use Rattle.uds.proofs.frame.response.Statement.{statement}

@@ -1,3 +1,4 @@
+-- The mask leaves the low seven bits.
 use mathlib.Core.Path.{_∙_}
 use lib.Bits.{and-mask}
 use borrow.Author.Needs.{needs}

@@ -1,3 +1,4 @@
+-- Bit 7 is set in a byte of 128 or more.
 use mathlib.Core.Path.{_∙_}
 use native.Mathlib.Omega.{arith}
 use borrow.Author.Needs.{needs}

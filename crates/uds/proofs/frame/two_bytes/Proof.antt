@@ -1,3 +1,4 @@
+-- Each mask leaves the low eight bits.
 use Prim.Native.Nat.{_/_}
 use native.Mathlib.Omega.{arith}
 use lib.Bits.{and-mask, mask-lt}

@@ -1,3 +1,4 @@
+-- Past the end both bytes are 0.
 use Prim.Native.Nat.{_+_}
 use native.Mathlib.Omega.{arith}
 use lib.ListN.{List·getD-eq-default}

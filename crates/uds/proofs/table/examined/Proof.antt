@@ -1,3 +1,4 @@
+-- The row that was found counts too; a row number past the rows stands for them all.
 use native.Mathlib.Omega.{arith}
 use borrow.Author.Needs.{needs}
 use Rattle.uds.proofs.table.examined.Statement.{statement}

@@ -1,3 +1,4 @@
+-- The invariant: a code that stands among the five stands among those that are left.
 use Prim.Native.Nat.{_≤_, _-_}
 use mathlib.Core.Path.{_≡_}
 use native.Mathlib.Omega.{arith}

@@ -1,3 +1,4 @@
+-- The modes in turn.
 use borrow.Author.Tests.{eq-eqb, ne-eqb}
 use Rattle.uds.proofs.nrc.Rate.interval.Statement.{statement}
 use Rattle.uds.proofs.nrc.Rate.interval.Tie as tie

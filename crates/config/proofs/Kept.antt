@@ -1,0 +1,173 @@
+-- What a configuration that keeps its numbers tells of its image, and when one that is given a row more keeps them.
+use Prim.Native.Nat.{ℕ, zero, suc, _+_, _*_, _^_, _≤_, _<_}
+use mathlib.Core.Path.{_≡_, refl, ap, sym, _∙_}
+use mathlib.Core.Bool.{Bool, true, false, _&&_}
+use mathlib.Core.List.{List, [], _∷_, _++_}
+use native.Mathlib.Omega.{arith}
+use lib.ListN.{length, getD, length-append}
+use lib.Dec.{leb, ltb}
+use borrow.Author.Tests.{leb-true, le-leb, lt-leb, lt-ltb, le-ltb}
+use native.Mathlib.Decide.{decLe}
+use native.Mathlib.Nat.{lt-of-not-le}
+use Rattle.model.specs.Tests.{all}
+use Rattle.model.proofs.Laws.{left, right}
+use Rattle.model.specs.Numbers.{maxSessions, maxServices, maxDids, maxLevels}
+use Rattle.model.specs.Config.{SessionConfig, ServiceConfig, DidConfig, SecurityLevelConfig, Config, within, tableWithin, sessionWithin, serviceWithin, didWithin, levelWithin}
+use Rattle.uds.specs.Table.{tab, column}
+use Rattle.config.specs.View.{listAt, sessionAt, serviceAt, didAt, levelAt, sessionCount, serviceCount, didCount, levelCount, configOf}
+use Rattle.config.specs.Build.{addSession, addService, addDid, addLevel, settled, overfull}
+use Rattle.uds.proofs.Tab.{tab-length}
+
+-- each row passes a test that all pass
+all-at : {B : Type 0} (p : B → Bool) (f : ℕ → B) (k n : ℕ) → all p (tab f k n) ≡ true → (i : ℕ) → k ≤ i → i < k + n → p (f i) ≡ true
+all-at p f k zero e i h l = absurd (omega arith)
+all-at p f k (suc n) e i h l = elim (decLe i k) [
+  | yes q ↦ (let z : k ≡ i = omega arith in rw (← z) (left (p (f k)) (all p (tab f (suc k) n)) e))
+  | no q ↦ (let g : k < i = lt-of-not-le q in all-at p f (suc k) n (right (p (f k)) (all p (tab f (suc k) n)) e) i (omega arith) (omega arith))
+]
+
+-- a table that keeps its numbers has few rows, and each keeps them
+record Table {B : Type 0} (most : ℕ) (p : B → Bool) (f : ℕ → B) (n : ℕ) : Type 0 where
+  pub few : n ≤ most
+  pub each : (i : ℕ) → i < n → p (f i) ≡ true
+
+table : {B : Type 0} (most : ℕ) (p : B → Bool) (f : ℕ → B) (n : ℕ) → tableWithin most p (tab f 0 n) ≡ true → Table most p f n
+table most p f n e =
+    let k : leb (length (tab f 0 n)) most ≡ true = left _ (all p (tab f 0 n)) e in
+    record {
+      few = omega (arith, leb-true (length (tab f 0 n)) most k, tab-length f 0 n);
+      each = λ i h. all-at p f 0 n (right (leb (length (tab f 0 n)) most) _ e) i (omega arith) (omega arith);
+    }
+
+list-short : (w : List ℕ) (at : ℕ) → leb (length (listAt w at)) 8 ≡ true → getD w at 0 ≤ 8
+list-short w at e = omega (arith, leb-true (length (listAt w at)) 8 e, tab-length (column w (at + 1) 1) 0 (getD w at 0))
+
+-- what an image keeps
+pub record Kept (w : List ℕ) : Type 0 where
+  pub sessions : sessionCount w ≤ 8
+  pub services : serviceCount w ≤ 24
+  pub supported : (i : ℕ) → i < serviceCount w → getD w (39 + i * 10) 0 ≤ 8
+  pub dids : didCount w ≤ 128
+  pub readable : (i : ℕ) → i < didCount w → getD w (281 + i * 21) 0 ≤ 8
+  pub writable : (i : ℕ) → i < didCount w → getD w (290 + i * 21) 0 ≤ 8
+  pub levels : levelCount w ≤ 8
+
+pub kept : (w : List ℕ) → within (configOf w) ≡ true → Kept w
+unfolding within
+kept w e =
+    let three = left _ (tableWithin maxLevels levelWithin (tab (levelAt w) 0 (levelCount w))) e in
+    let two = left _ (tableWithin maxDids didWithin (tab (didAt w) 0 (didCount w))) three in
+    let s = table maxSessions sessionWithin (sessionAt w) (sessionCount w) (left _ (tableWithin maxServices serviceWithin (tab (serviceAt w) 0 (serviceCount w))) two) in
+    let v = table maxServices serviceWithin (serviceAt w) (serviceCount w) (right (tableWithin maxSessions sessionWithin (tab (sessionAt w) 0 (sessionCount w))) _ two) in
+    let d = table maxDids didWithin (didAt w) (didCount w) (right (tableWithin maxSessions sessionWithin (tab (sessionAt w) 0 (sessionCount w)) && tableWithin maxServices serviceWithin (tab (serviceAt w) 0 (serviceCount w))) _ three) in
+    let l = table maxLevels levelWithin (levelAt w) (levelCount w) (right (tableWithin maxSessions sessionWithin (tab (sessionAt w) 0 (sessionCount w)) && tableWithin maxServices serviceWithin (tab (serviceAt w) 0 (serviceCount w)) && tableWithin maxDids didWithin (tab (didAt w) 0 (didCount w))) _ e) in
+    record {
+      sessions = s .few;
+      services = v .few;
+      supported = λ i h. list-short w (39 + i * 10) (v .each i h);
+      dids = d .few;
+      readable = λ i h. list-short w (281 + i * 21) (left _ (leb (length (listAt w (290 + i * 21))) 8) (left _ (ltb (getD w (280 + i * 21) 0) (2 ^ 32)) (d .each i h)));
+      writable = λ i h. list-short w (290 + i * 21) (right (leb (length (listAt w (281 + i * 21))) 8) _ (left _ (ltb (getD w (280 + i * 21) 0) (2 ^ 32)) (d .each i h)));
+      levels = l .few;
+    }
+
+-- one row more: there is room for it, and it keeps the numbers too
+all-more : {B : Type 0} (p : B → Bool) (l : List B) (r : B) → all p (l ++ (r ∷ [])) ≡ (all p l && p r)
+all-more p [] r = go (p r)
+  where
+    go : (b : Bool) → (b && true) ≡ b
+    go true = refl
+    go false = refl
+all-more p (a ∷ l) r = rw (all-more p l r) (go (p a) (all p l) (p r))
+  where
+    go : (a b c : Bool) → (a && (b && c)) ≡ ((a && b) && c)
+    go true b c = refl
+    go false b c = refl
+
+-- a table of a row more
+more : {B : Type 0} (most : ℕ) (p : B → Bool) (l : List B) (r : B) → tableWithin most p (l ++ (r ∷ [])) ≡ ((tableWithin most p l && ltb (length l) most) && p r)
+more most p l r = elim (decLe most (length l)) [ yes h ↦ full h | no h ↦ room (lt-of-not-le h) ]
+  where
+    shut : (a b : Bool) → false ≡ ((a && false) && b)
+    shut true b = refl
+    shut false b = refl
+
+    open-to : (a b : Bool) → (a && b) ≡ ((a && true) && b)
+    open-to true b = refl
+    open-to false b = refl
+
+    full : most ≤ length l → tableWithin most p (l ++ (r ∷ [])) ≡ ((tableWithin most p l && ltb (length l) most) && p r)
+    full h =
+        rw (lt-leb (length (l ++ (r ∷ []))) most (omega (arith, length-append l (r ∷ []))), le-ltb (length l) most h) (shut (tableWithin most p l) (p r))
+
+    room : length l < most → tableWithin most p (l ++ (r ∷ [])) ≡ ((tableWithin most p l && ltb (length l) most) && p r)
+    room h =
+        rw (le-leb (length (l ++ (r ∷ []))) most (omega (arith, length-append l (r ∷ []))), lt-ltb (length l) most h, le-leb (length l) most (omega arith), all-more p l r) (open-to (all p l) (p r))
+
+-- two tests more of one table are two tests more of the whole
+swap : (x r o b : Bool) → (((x && r) && o) && b) ≡ (((x && b) && r) && o)
+swap false r o b = refl
+swap true false o true = refl
+swap true false o false = refl
+swap true true true true = refl
+swap true true true false = refl
+swap true true false true = refl
+swap true true false false = refl
+
+push : (x y r o : Bool) → (x && ((y && r) && o)) ≡ (((x && y) && r) && o)
+push true y r o = refl
+push false y r o = refl
+
+module _ (a b c d r o : Bool) where
+  first-table : (((((a && r) && o) && b) && c) && d) ≡ (((((a && b) && c) && d) && r) && o)
+  first-table = rw (swap a r o b, swap (a && b) r o c, swap (a && b && c) r o d)
+
+  second-table : (((a && ((b && r) && o)) && c) && d) ≡ (((((a && b) && c) && d) && r) && o)
+  second-table = rw (push a b r o, swap (a && b) r o c, swap (a && b && c) r o d)
+
+  third-table : (((a && b) && ((c && r) && o)) && d) ≡ (((((a && b) && c) && d) && r) && o)
+  third-table = rw (push (a && b) c r o, swap (a && b && c) r o d)
+
+  fourth-table : (((a && b) && c) && ((d && r) && o)) ≡ (((((a && b) && c) && d) && r) && o)
+  fourth-table = rw (push (a && b && c) d r o)
+
+-- whether a configuration with a row more keeps the numbers: the configuration does, there is room, and the row does
+module _ (c : Config) where
+  sessionsOk : Bool
+  sessionsOk = tableWithin maxSessions sessionWithin (c .sessions)
+
+  servicesOk : Bool
+  servicesOk = tableWithin maxServices serviceWithin (c .services)
+
+  didsOk : Bool
+  didsOk = tableWithin maxDids didWithin (c .dids)
+
+  levelsOk : Bool
+  levelsOk = tableWithin maxLevels levelWithin (c .levels)
+
+  pub with-session : (r : SessionConfig) → within (addSession c r) ≡ ((within c && ltb (length (c .sessions)) maxSessions) && sessionWithin r)
+  unfolding within sessionsOk servicesOk didsOk levelsOk
+  with-session r = rw (more maxSessions sessionWithin (c .sessions) r) (first-table sessionsOk servicesOk didsOk levelsOk (ltb (length (c .sessions)) maxSessions) (sessionWithin r))
+
+  pub with-service : (r : ServiceConfig) → within (addService c r) ≡ ((within c && ltb (length (c .services)) maxServices) && serviceWithin r)
+  unfolding within sessionsOk servicesOk didsOk levelsOk
+  with-service r = rw (more maxServices serviceWithin (c .services) r) (second-table sessionsOk servicesOk didsOk levelsOk (ltb (length (c .services)) maxServices) (serviceWithin r))
+
+  pub with-did : (r : DidConfig) → within (addDid c r) ≡ ((within c && ltb (length (c .dids)) maxDids) && didWithin r)
+  unfolding within sessionsOk servicesOk didsOk levelsOk
+  with-did r = rw (more maxDids didWithin (c .dids) r) (third-table sessionsOk servicesOk didsOk levelsOk (ltb (length (c .dids)) maxDids) (didWithin r))
+
+  pub with-level : (r : SecurityLevelConfig) → within (addLevel c r) ≡ ((within c && ltb (length (c .levels)) maxLevels) && levelWithin r)
+  unfolding within sessionsOk servicesOk didsOk levelsOk
+  with-level r = rw (more maxLevels levelWithin (c .levels) r) (fourth-table sessionsOk servicesOk didsOk levelsOk (ltb (length (c .levels)) maxLevels) (levelWithin r))
+
+-- so it is refused, or taken as it is
+module _ (c : Config) (room row : Bool) (d : within c ≡ (room && row)) where
+  pub no-room : room ≡ false → overfull ≡ settled c
+  no-room e = rw (d, e)
+
+  pub no-row : room ≡ true → row ≡ false → overfull ≡ settled c
+  no-row e f = rw (d, e, f)
+
+  pub taken : room ≡ true → row ≡ true → c ≡ settled c
+  taken e f = rw (d, e, f)

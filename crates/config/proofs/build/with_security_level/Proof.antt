@@ -1,0 +1,87 @@
+-- Refused without room or for the row's own sake, else taken as it is.
+use Prim.Native.Nat.{_<_}
+use mathlib.Core.Path.{_≡_, ap, sym, _∙_}
+use native.Mathlib.Omega.{arith}
+use lib.ListN.{length}
+use borrow.Author.Tests.{not-true, not-false}
+use borrow.Author.Needs.{needs}
+use Rattle.config.specs.Build.{addLevel}
+use Rattle.uds.specs.Rows.{levelOf}
+use Rattle.config.specs.View.{configOf}
+use Rattle.config.proofs.Building.{decides-level, level-built, room}
+use Rattle.config.proofs.Kept.{no-room, no-row}
+use Rattle.config.proofs.build.with_security_level.Statement.{statement}
+use Rattle.config.proofs.build.with_security_level.Tie as tie
+
+slice-aggregate-word : tie.Need-slice-aggregate-word
+slice-aggregate-word c = search needs
+
+word-requires : tie.Need-word-requires
+word-requires c κs = search needs
+
+cast-n : tie.Need-cast-n
+cast-n c = search needs
+
+has-room-requires : tie.Need-has-room-requires
+has-room-requires c κs = search needs
+
+overfull-requires : tie.Need-overfull-requires
+overfull-requires c κs = search needs
+
+returns : tie.Need-returns
+returns c = let a = c .before .before .before .before .before .before .args in
+    c .overfull .ensures
+    ∙ no-room (addLevel (configOf (a .t1)) (levelOf (a .l))) _ _ (decides-level (a .t1) (c .before .before .before .before .word .result) (c .before .before .before .before .word .ensures) (levelOf (a .l))) (sym (c .before .before .has-room .ensures) ∙ not-true _ (c .before .if1 .taken))
+
+within-requires : tie.Need-within-requires
+within-requires c κs = search needs
+
+overfull-requires-2 : tie.Need-overfull-requires-2
+overfull-requires-2 c κs = search needs
+
+returns-2 : tie.Need-returns-2
+returns-2 c = let a = c .before .before .before .before .before .before .before .before .args in
+    c .overfull2 .ensures
+    ∙ no-row (addLevel (configOf (a .t1)) (levelOf (a .l))) _ _ (decides-level (a .t1) (c .before .before .before .before .before .before .word .result) (c .before .before .before .before .before .before .word .ensures) (levelOf (a .l))) (sym (c .before .before .before .before .has-room .ensures) ∙ not-false _ (c .before .before .before .if1 .left)) (sym (c .before .before .within .ensures) ∙ not-true _ (c .before .if2 .taken))
+
+level-row-requires : tie.Need-level-row-requires
+level-row-requires c κs = search needs
+
+mul-grown : tie.Need-mul-grown
+mul-grown c = search needs
+
+add-grown : tie.Need-add-grown
+add-grown c = search needs
+
+slice-aggregate-grown : tie.Need-slice-aggregate-grown
+slice-aggregate-grown c = search needs
+
+grown-requires : tie.Need-grown-requires
+grown-requires c κs =
+    let few : c .before .before .before .before .before .before .before .word .result < 8 = room (c .before .before .before .before .before .before .before .before .before .args .t1) (c .before .before .before .before .before .before .before .word .result) 8 (sym (c .before .before .before .before .before .has-room .ensures) ∙ not-false _ (c .before .before .before .before .if1 .left)) in
+    (omega arith, omega (arith, c .before .before .before .before .before .before .before .word .ensures), omega (arith, ap length (c .before .level-row .ensures)))
+
+returns-3 : tie.Need-returns-3
+returns-3 c = let a = c .before .before .before .before .before .before .before .before .before .before .args in
+    let l : length (a .t1) ≡ 3006 = search needs in
+    level-built (a .t1) (c .before .before .before .before .before .before .before .before .word .result) (c .grown .result) _ (a .l) (c .before .before .before .before .before .before .before .before .word .ensures) l (c .before .before .level-row .ensures) (sym (c .before .before .before .before .before .before .has-room .ensures) ∙ not-false _ (c .before .before .before .before .before .if1 .left)) (sym (c .before .before .before .before .within .ensures) ∙ not-false _ (c .before .before .before .if2 .left)) (c .grown .ensures)
+
+pub with-security-level-spec : {M : Type 1} → statement M
+with-security-level-spec =
+    tie.close
+    (tie.spec
+    slice-aggregate-word
+    word-requires
+    cast-n
+    has-room-requires
+    overfull-requires
+    returns
+    within-requires
+    overfull-requires-2
+    returns-2
+    level-row-requires
+    mul-grown
+    add-grown
+    slice-aggregate-grown
+    grown-requires
+    returns-3)
