@@ -1,24 +1,23 @@
 -- What the functions of the queue do, as laws of the definitions over what their callees promise: one for each way out.
-use Prim.Native.Nat.{ℕ, suc, _+_, _≤_, _<_}
-use mathlib.Core.Path.{_≡_, refl, ap, ap₂, sym, _∙_}
-use mathlib.Core.Bool.{Bool, true, false}
-use mathlib.Core.List.{List, [], _∷_}
-use native.Mathlib.Omega.{arith}
+use Prim.Native.Nat.{ℕ, suc, _≤_, _<_}
+use mathlib.Core.Path.{_≡_, refl, ap₂, sym, _∙_}
+use mathlib.Core.Bool.{true, false}
+use mathlib.Core.List.{List}
 use lib.ListN.{length}
 use borrow.Author.Tests.{le-leb, lt-leb}
-use Rattle.model.specs.Tests.{pick}
-use Rattle.model.specs.Numbers.{maxFrame, maxOutbox}
-use Rattle.model.specs.Frame.{Frame, response, positiveFrame, negativeFrame}
-use Rattle.model.specs.State.{AddressMode, physical, functional}
+use Rattle.model.specs.Numbers.{maxFrame}
+use Rattle.model.specs.Frame.{Frame, positiveFrame, negativeFrame}
+use Rattle.model.specs.State.{AddressMode, physical}
 use Rattle.model.specs.Reply.{withheld}
-use Rattle.queue.specs.Model.{QueueStep, leaves, pushed, refused, confirmed, sent}
-use Rattle.queue.specs.View.{roomSize, bytesAt, queueOf, placeOf, draftOf, modeOf, stepOf, Pushes, Stands}
+use Rattle.queue.specs.Model.{leaves, pushed, refused, confirmed, sent}
+use Rattle.queue.specs.View.{queueOf, stepOf, Pushes}
 use Rattle.queue.specs.declared.reply.Pushed.{Pushed}
+use Rattle.queue.proofs.Room.{Stands}
 
 -- a frame that stands in the free place, pushed
 pub queues : {count to n : ℕ} {bytes heads heads' room room' : List ℕ} {r : Pushed} → Stands count bytes n room room' → Pushes count to n heads r heads'
     → stepOf r heads' room' ≡ pushed (queueOf count heads room) to bytes
-queues {to = to} {heads = h} {room' = m} s p = p .step m ∙ ap₂ (λ (q : List Frame) (b : List ℕ). pushed q to b) (s .unseen h (p .size)) (s .there)
+queues {to = to} {heads = h} {room' = m} s p = p .step m ∙ ap₂ (λ (q : List Frame) (b : List ℕ). pushed q to b) (s .unseen h) (s .there)
 
 -- a physical request hears every code
 pub unwithheld : (code : ℕ) → withheld physical code ≡ false

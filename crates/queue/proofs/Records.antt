@@ -2,23 +2,23 @@
 use Prim.Native.Nat.{ℕ, zero, suc, _+_, _*_, _-_, _≤_, _<_}
 use mathlib.Core.Path.{_≡_, refl, ap, sym, _∙_}
 use mathlib.Core.Bool.{Bool, true, false, _&&_}
-use mathlib.Core.List.{List, [], _∷_, _++_}
+use mathlib.Core.List.{List, _++_}
 use native.Mathlib.Omega.{arith}
 use native.Mathlib.Decide.{decLe}
-use lib.ListN.{length, getD, take, drop, length-append}
+use lib.ListN.{length, take, drop, length-append}
 use lib.Dec.{leb}
 use borrow.Author.Tests.{le-leb, lt-leb, leb-true}
-use Rattle.model.specs.Tests.{pick, all}
+use Rattle.model.specs.Tests.{all}
 use Rattle.model.specs.Numbers.{maxFrame, maxOutbox}
 use Rattle.model.specs.Config.{tableWithin}
 use Rattle.model.specs.Frame.{Frame}
 use Rattle.model.specs.State.{frameValid}
 use Rattle.model.specs.Drain.{u16, u32, record1, records}
 use Rattle.uds.specs.Table.{tab}
-use Rattle.uds.proofs.Tab.{tab-cons, tab-end, tab-all, tab-length}
+use Rattle.uds.proofs.Tab.{tab-cons, tab-end, tab-length}
 use Rattle.queue.specs.Over.{over}
 use Rattle.queue.specs.Model.{drained, unmoved, written}
-use Rattle.queue.specs.View.{roomSize, Framed, frameAt, queueOf}
+use Rattle.queue.specs.View.{roomSize, Framed, headAt, frameAt, queueOf}
 use Rattle.queue.proofs.Over.{over-nothing, over-over}
 use Rattle.queue.proofs.Room.{bytes-length, plain}
 
@@ -33,21 +33,21 @@ record-written out mid after head at to f h p m a = rw (a, m, h) (over-over out 
 
 -- a frame is as long as its head says
 module _ (heads room : List ℕ) (z : length room ≡ roomSize) (i : ℕ) (h : i < maxOutbox) where
-  pub frame-length : length (frameAt heads room i .bytes) ≡ getD heads (2 * i + 1) 0
-  frame-length = bytes-length room (maxFrame * i) (getD heads (2 * i + 1) 0) (omega arith)
+  pub frame-length : length (frameAt heads room i .bytes) ≡ headAt heads (2 * i + 1)
+  frame-length = bytes-length room (maxFrame * i) (headAt heads (2 * i + 1)) (omega arith)
 
-  pub frame-part : (len : ℕ) → len ≡ getD heads (2 * i + 1) 0 → len ≤ maxFrame → take (maxFrame * i + len - maxFrame * i) (drop (maxFrame * i) room) ≡ frameAt heads room i .bytes
+  pub frame-part : (len : ℕ) → len ≡ headAt heads (2 * i + 1) → len ≤ maxFrame → take (maxFrame * i + len - maxFrame * i) (drop (maxFrame * i) room) ≡ frameAt heads room i .bytes
   frame-part len e g =
       let k : maxFrame * i + len - maxFrame * i ≡ len = omega arith in
       rw (k, ← e) (sym (plain room (maxFrame * i) len g))
 
-  pub frame-empty : getD heads (2 * i + 1) 0 ≡ 0 → frameValid maxFrame (frameAt heads room i) ≡ false
+  pub frame-empty : headAt heads (2 * i + 1) ≡ 0 → frameValid maxFrame (frameAt heads room i) ≡ false
   frame-empty e = rw (lt-leb 1 (length (frameAt heads room i .bytes)) (omega (arith, frame-length)))
 
-  pub frame-long : maxFrame < getD heads (2 * i + 1) 0 → frameValid maxFrame (frameAt heads room i) ≡ false
+  pub frame-long : maxFrame < headAt heads (2 * i + 1) → frameValid maxFrame (frameAt heads room i) ≡ false
   frame-long e = rw (le-leb 1 (length (frameAt heads room i .bytes)) (omega (arith, frame-length)), lt-leb (length (frameAt heads room i .bytes)) maxFrame (omega (arith, frame-length)))
 
-  pub frame-right : (getD heads (2 * i + 1) 0 ≡ 0 → ⊥) → getD heads (2 * i + 1) 0 ≤ maxFrame → frameValid maxFrame (frameAt heads room i) ≡ true
+  pub frame-right : (headAt heads (2 * i + 1) ≡ 0 → ⊥) → headAt heads (2 * i + 1) ≤ maxFrame → frameValid maxFrame (frameAt heads room i) ≡ true
   frame-right e g =
       rw (le-leb 1 (length (frameAt heads room i .bytes)) (omega (arith, frame-length)), le-leb (length (frameAt heads room i .bytes)) maxFrame (omega (arith, frame-length)))
 

@@ -1,21 +1,20 @@
 -- Laws of the lent room: its places, the queue that stands in it, and the reply that is made in the free place.
-use Prim.Native.Nat.{ℕ, suc, min, _*_, _+_, _-_, _≤_, _<_}
+use Prim.Native.Nat.{ℕ, min, _*_, _+_, _-_, _≤_, _<_}
 use mathlib.Core.Path.{_≡_, refl, ap, ap₂, sym, _∙_}
 use mathlib.Core.List.{List, [], _∷_, _++_, append-nil}
 use native.Mathlib.Omega.{arith}
 use native.Mathlib.Decide.{decLt}
-use lib.ListN.{length, getD, take, drop, set, replicate, length-take, length-drop, length-append, length-set, length-replicate, List·getD-eq-default}
-use lib.Seq.{getD-set-same, getD-set-other, take-take, take-add, drop-drop}
+use lib.ListN.{length, take, drop, set, replicate, length-take, length-drop, length-append, length-set, length-replicate, List·getD-eq-default}
+use lib.Seq.{getD-set-same, getD-set-other, take-take, take-add, take-all, drop-drop}
 use borrow.Author.Tests.{lt-ltb, le-ltb, le-leb, lt-leb}
 use Rattle.model.specs.Numbers.{maxFrame, maxOutbox}
 use Rattle.model.specs.Frame.{Frame}
-use Rattle.uds.specs.Table.{tab}
-use Rattle.uds.proofs.Tab.{tab-same, tab-snoc, tab-length}
 use Rattle.model.specs.Service22.{going}
+use Rattle.uds.proofs.Tab.{tab-same, tab-snoc, tab-length}
 use Rattle.queue.specs.declared.draft.Drafted.the-variants.{Going, TooLong}
 use Rattle.queue.specs.Over.{over}
-use Rattle.queue.specs.Model.{QueueStep, leaves, pushed}
-use Rattle.queue.specs.View.{roomSize, headsSize, bytesAt, frameAt, queueOf, placeOf, draftOf, Unseen, Stands, Drafts}
+use Rattle.queue.specs.Model.{leaves, pushed}
+use Rattle.queue.specs.View.{roomSize, headsSize, headAt, bytesAt, frameAt, queueOf, placeOf, draftOf, Unseen, Drafts}
 use Rattle.queue.proofs.Over.{part, over-length, over-below, over-from, over-above}
 
 abbrev pub frame : ℕ → List ℕ → Frame
@@ -43,14 +42,19 @@ agree l m a n k p q h e =
 
 -- what is put from the free place on is not seen: a frame counted past the sixteenth has no head, and so no bytes
 pub unseen : (count : ℕ) (room : List ℕ) (at : ℕ) (xs : List ℕ) → length room ≡ roomSize → placeOf count ≤ at → at + length xs ≤ roomSize → Unseen count room (over room at xs)
-unseen count room at xs z p q heads h =
-    tab-same (frameAt heads (over room at xs)) (frameAt heads room) 0 count (λ i _ s. ap (frame (getD heads (2 * i) 0)) (same i s (decLt i maxOutbox)))
+unseen count room at xs z p q heads =
+    tab-same (frameAt heads (over room at xs)) (frameAt heads room) 0 count (λ i _ s. ap (frame (headAt heads (2 * i))) (same i s (decLt i maxOutbox)))
   where
-    same : (i : ℕ) → i < 0 + count → Dec (i < maxOutbox) → bytesAt (over room at xs) (maxFrame * i) (getD heads (2 * i + 1) 0) ≡ bytesAt room (maxFrame * i) (getD heads (2 * i + 1) 0)
+    same : (i : ℕ) → i < 0 + count → Dec (i < maxOutbox) → bytesAt (over room at xs) (maxFrame * i) (headAt heads (2 * i + 1)) ≡ bytesAt room (maxFrame * i) (headAt heads (2 * i + 1))
     same i s (yes d) =
-        agree (over room at xs) room (maxFrame * i) (getD heads (2 * i + 1) 0) (placeOf count) (omega (arith, over-length room at xs (omega arith))) (omega arith) (omega arith)
+        agree (over room at xs) room (maxFrame * i) (headAt heads (2 * i + 1)) (placeOf count) (omega (arith, over-length room at xs (omega arith))) (omega arith) (omega arith)
         (over-below room at xs (omega arith) (placeOf count) p)
-    same i s (no d) = let e : getD heads (2 * i + 1) 0 ≡ 0 = List·getD-eq-default heads 0 {n = 2 * i + 1} (omega arith) in rw e
+    same i s (no d) = let e : headAt heads (2 * i + 1) ≡ 0 = List·getD-eq-default (take headsSize heads) 0 {n = 2 * i + 1} (omega (arith, length-take headsSize heads)) in rw e
+
+-- bytes that stand in the free place, which nothing shows yet
+pub record Stands (count : ℕ) (bytes : List ℕ) (n : ℕ) (before after : List ℕ) : Type 0 where
+  pub there : bytesAt after (placeOf count) n ≡ bytes
+  pub unseen : Unseen count before after
 
 module _ (count at : ℕ) (room after : List ℕ) (z : length room ≡ roomSize) (p : at ≡ placeOf count) where
   -- bytes put in the free place stand there
@@ -85,7 +89,7 @@ draft-length count len room z = bytes-length room (placeOf count + 1) len (omega
 -- bytes appended to it
 module _ (count len : ℕ) (room bytes : List ℕ) (z : length room ≡ roomSize) where
   pub too-long : maxFrame < len + length bytes → Drafts count len bytes room TooLong room
-  too-long h = record { reading = rw (lt-leb (length (draftOf count len room) + length bytes) maxFrame (omega (arith, draft-length count len room z))); unseen = λ heads _. refl }
+  too-long h = record { reading = rw (lt-leb (length (draftOf count len room) + length bytes) maxFrame (omega (arith, draft-length count len room z))); unseen = λ heads. refl }
 
   pub grows : (at : ℕ) (after : List ℕ) → at ≡ placeOf count + 1 + len → len + length bytes ≤ maxFrame → after ≡ over room at bytes → Drafts count len bytes room (Going (len + length bytes)) after
   grows at after p h e =
@@ -107,14 +111,18 @@ module _ (count to len : ℕ) (heads room : List ℕ) (h : count < maxOutbox) (d
   abbrev more : List ℕ
   more = set (set heads (2 * count) to) (2 * count + 1) len
 
+  -- all of the heads are seen
+  whole : take headsSize more ≡ more
+  whole = take-all headsSize more (omega (arith, length-set (set heads (2 * count) to) (2 * count + 1) len, length-set heads (2 * count) to))
+
   newest : frameAt more room count ≡ frame to (bytesAt room (placeOf count) len)
   newest =
       let e : min count maxOutbox ≡ count = omega arith in
-      rw (getD-set-same (set heads (2 * count) to) (2 * count + 1) len 0 (omega (arith, length-set heads (2 * count) to)), getD-set-other (set heads (2 * count) to) (2 * count + 1) (2 * count) len 0 (omega arith), getD-set-same heads (2 * count) to 0 (omega arith), e)
+      rw (whole, getD-set-same (set heads (2 * count) to) (2 * count + 1) len 0 (omega (arith, length-set heads (2 * count) to)), getD-set-other (set heads (2 * count) to) (2 * count + 1) (2 * count) len 0 (omega arith), getD-set-same heads (2 * count) to 0 (omega arith), e)
 
   earlier : (i : ℕ) → i < count → frameAt more room i ≡ frameAt heads room i
   earlier i p =
-      rw (getD-set-other (set heads (2 * count) to) (2 * count + 1) (2 * i) len 0 (omega arith), getD-set-other (set heads (2 * count) to) (2 * count + 1) (2 * i + 1) len 0 (omega arith), getD-set-other heads (2 * count) (2 * i) to 0 (omega arith), getD-set-other heads (2 * count) (2 * i + 1) to 0 (omega arith))
+      rw (whole, take-all headsSize heads (omega arith), getD-set-other (set heads (2 * count) to) (2 * count + 1) (2 * i) len 0 (omega arith), getD-set-other (set heads (2 * count) to) (2 * count + 1) (2 * i + 1) len 0 (omega arith), getD-set-other heads (2 * count) (2 * i) to 0 (omega arith), getD-set-other heads (2 * count) (2 * i + 1) to 0 (omega arith))
 
   appended : queueOf (count + 1) more room ≡ queueOf count heads room ++ (frame to (bytesAt room (placeOf count) len) ∷ [])
   appended =

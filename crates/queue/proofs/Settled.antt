@@ -1,22 +1,22 @@
 -- Nothing else meets the promises: two answers that meet one are equal in all that it speaks of.
-use Prim.Native.Nat.{ℕ, _≤_}
+use Prim.Native.Nat.{ℕ}
 use mathlib.Core.Path.{_≡_, refl, ap, ap₂, sym, _∙_}
 use mathlib.Core.Bool.{Bool}
 use mathlib.Core.List.{List}
-use native.Mathlib.Omega.{arith}
 use lib.ListN.{length}
 use Rattle.model.specs.Numbers.{maxFrame, maxOutbox}
-use Rattle.model.specs.Frame.{Frame}
 use Rattle.model.specs.Config.{tableWithin}
 use Rattle.model.specs.State.{frameValid}
-use Rattle.model.specs.Service22.{Reading, going, ended}
+use Rattle.model.specs.Service22.{readReply}
 use Rattle.uds.proofs.Tab.{tab-length}
 use Rattle.queue.specs.Model.{QueueStep, QueueDrain}
-use Rattle.queue.specs.View.{roomSize, headsSize, frameAt, queueOf, draftOf, stepOf, readingOf, drainOf, Drafts}
+use Rattle.queue.specs.View.{roomSize, frameAt, queueOf, draftOf, stepOf, replyOf, readingOf, drainOf, Drafts}
 use Rattle.queue.specs.declared.draft.Drafted.{Drafted}
 use Rattle.queue.specs.declared.draft.Drafted.the-variants.{Going, TooLong}
 use Rattle.queue.specs.declared.drain.Drained.{Drained}
 use Rattle.queue.specs.declared.reply.Pushed.{Pushed}
+use Rattle.queue.specs.declared.reply.Reply.{Reply}
+use Rattle.queue.specs.declared.reply.Reply.the-variants.{Silent, Positive, Negative, Always, Pends}
 use Rattle.queue.proofs.Room.{draft-length}
 
 -- queues that are equal have as many frames
@@ -40,14 +40,33 @@ step-settled q r r' heads heads' room room' e e' =
 
 -- extend, put: the answer itself, the reply in the making where there is one, and the queue that is seen
 pub draft-settled : (count len : ℕ) (bytes before : List ℕ) (r r' : Drafted) (after after' : List ℕ) → length after ≡ roomSize → length after' ≡ roomSize → Drafts count len bytes before r after → Drafts count len bytes before r' after'
-    → (r ≡ r') × (readingOf r count after ≡ readingOf r' count after') × ((heads : List ℕ) → length heads ≡ headsSize → queueOf count heads after ≡ queueOf count heads after')
-draft-settled count len bytes before r r' after after' z z' d d' = (same r r' (d .reading ∙ sym (d' .reading)), d .reading ∙ sym (d' .reading), λ heads h. d .unseen heads h ∙ sym (d' .unseen heads h))
+    → (r ≡ r') × (readingOf r count after ≡ readingOf r' count after') × ((heads : List ℕ) → queueOf count heads after ≡ queueOf count heads after')
+draft-settled count len bytes before r r' after after' z z' d d' = (same r r' (d .reading ∙ sym (d' .reading)), d .reading ∙ sym (d' .reading), λ heads. d .unseen heads ∙ sym (d' .unseen heads))
   where
     same : (x y : Drafted) → readingOf x count after ≡ readingOf y count after' → x ≡ y
     same (Going m) (Going n) e = let k : draftOf count m after ≡ draftOf count n after' = cc in ap Going (sym (draft-length count m after z) ∙ ap length k ∙ draft-length count n after' z')
     same (Going m) TooLong e = cc
     same TooLong (Going n) e = cc
     same TooLong TooLong e = refl
+
+-- said: the reply, which any one room tells
+abbrev saidOf : Drafted → Reply
+saidOf (Going len) = Positive len
+saidOf TooLong = Negative 0x14
+
+pub said-settled : (d : Drafted) (r : Reply) (count : ℕ) (room : List ℕ) → length room ≡ roomSize → replyOf r count room ≡ readReply (readingOf d count room) → r ≡ saidOf d
+said-settled (Going n) (Positive m) count room z e =
+    let k : draftOf count m room ≡ draftOf count n room = cc in
+    ap Positive (sym (draft-length count m room z) ∙ ap length k ∙ draft-length count n room z)
+said-settled (Going n) Silent count room z e = cc
+said-settled (Going n) (Negative c) count room z e = cc
+said-settled (Going n) (Always c) count room z e = cc
+said-settled (Going n) Pends count room z e = cc
+said-settled TooLong (Negative c) count room z e = let k : c ≡ 0x14 = cc in ap Negative k
+said-settled TooLong Silent count room z e = cc
+said-settled TooLong (Positive m) count room z e = cc
+said-settled TooLong (Always c) count room z e = cc
+said-settled TooLong Pends count room z e = cc
 
 -- frames_valid
 pub valid-settled : (count : ℕ) (heads room : List ℕ) (r r' : Bool) → r ≡ tableWithin maxOutbox (frameValid maxFrame) (queueOf count heads room) → r' ≡ tableWithin maxOutbox (frameValid maxFrame) (queueOf count heads room) → r ≡ r'

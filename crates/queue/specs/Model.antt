@@ -1,7 +1,6 @@
 -- What the definition's replies do to the queue alone. Each is the definition's step of the same name with the state left out; that they
 -- agree is proved.
 use Prim.Native.Nat.{ℕ, suc}
-use mathlib.Core.Bool.{Bool}
 use mathlib.Core.List.{List, [], _∷_, _++_}
 use lib.ListN.{length, drop}
 use lib.Dec.{leb, ltb}

@@ -31,8 +31,12 @@ headsSize = 32
 abbrev pub bytesAt : List ℕ → ℕ → ℕ → List ℕ
 bytesAt room at n = take (min n maxFrame) (drop at room) ++ replicate (n - maxFrame) 0
 
+-- a head: there are none past the sixteenth frame's
+abbrev pub headAt : List ℕ → ℕ → ℕ
+headAt heads k = getD (take headsSize heads) k 0
+
 abbrev pub frameAt : List ℕ → List ℕ → ℕ → Frame
-frameAt heads room i = record { dst = getD heads (2 * i) 0; bytes = bytesAt room (maxFrame * i) (getD heads (2 * i + 1) 0) }
+frameAt heads room i = record { dst = headAt heads (2 * i); bytes = bytesAt room (maxFrame * i) (headAt heads (2 * i + 1)) }
 
 -- as many frames as are counted, also where that is more than there are places
 abbrev pub queueOf : ℕ → List ℕ → List ℕ → List Frame
@@ -63,16 +67,10 @@ stepOf p heads room = record { result = p .result; queue = queueOf (p .count) he
 -- a push, of every room: the first `len` bytes of the free place become a frame
 pub record Pushes (count to len : ℕ) (before : List ℕ) (r : Pushed) (after : List ℕ) : Type 0 where
   pub step : (room : List ℕ) → stepOf r after room ≡ pushed (queueOf count before room) to (bytesAt room (placeOf count) len)
-  pub size : length before ≡ headsSize
 
 -- the visible queue is as it was, whatever its heads
 abbrev pub Unseen : ℕ → List ℕ → List ℕ → Type 0
-Unseen count before after = (heads : List ℕ) → length heads ≡ headsSize → queueOf count heads after ≡ queueOf count heads before
-
--- bytes that stand in the free place, which nothing shows yet
-pub record Stands (count : ℕ) (bytes : List ℕ) (n : ℕ) (before after : List ℕ) : Type 0 where
-  pub there : bytesAt after (placeOf count) n ≡ bytes
-  pub unseen : Unseen count before after
+Unseen count before after = (heads : List ℕ) → queueOf count heads after ≡ queueOf count heads before
 
 -- what appending to a reply in the making answers
 abbrev pub readingOf : Drafted → ℕ → List ℕ → Reading
@@ -87,7 +85,7 @@ pub record Drafts (count len : ℕ) (bytes before : List ℕ) (r : Drafted) (aft
 -- frames that stand in their places
 pub record Framed (n : ℕ) (heads : List ℕ) : Type 0 where
   pub few : n ≤ maxOutbox
-  pub each : (i : ℕ) → i < n → getD heads (2 * i + 1) 0 ≤ maxFrame
+  pub each : (i : ℕ) → i < n → headAt heads (2 * i + 1) ≤ maxFrame
 
 abbrev pub drainOf : Drained → List ℕ → List ℕ → List ℕ → QueueDrain
 drainOf d heads room buffer = record { result = d .result; frames = d .frames; queue = queueOf (d .count) heads room; buffer = buffer }

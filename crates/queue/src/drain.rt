@@ -3,14 +3,14 @@
 ghost use mathlib.Core.Path.{_≡_};
 ghost use Prim.Native.Nat.{ℕ, _+_, _*_, _≤_, _<_};
 ghost use mathlib.Core.List.{List, _++_};
-ghost use lib.ListN.{length, getD};
+ghost use lib.ListN.{length};
 ghost use Rattle.model.specs.Numbers.{maxFrame, maxOutbox};
 ghost use Rattle.model.specs.Config.{tableWithin};
 ghost use Rattle.model.specs.State.{frameValid};
 ghost use Rattle.model.specs.Drain.{u16, u32, record1, records};
 ghost use Rattle.queue.specs.Over.{over};
 ghost use Rattle.queue.specs.Model.{drained};
-ghost use Rattle.queue.specs.View.{roomSize, Framed, queueOf, drainOf};
+ghost use Rattle.queue.specs.View.{roomSize, Framed, headAt, queueOf, drainOf};
 use super::Heads;
 use super::Room;
 
@@ -21,12 +21,20 @@ pub struct Drained {
     pub count: u8,
 }
 
+// A word of the heads.
+fn head_word(heads: &Heads, at: usize) -> u32
+    requires { ⌜ at < 32 ⌝ }
+    ensures { λ r. ⌜ r ≡ headAt (now (heads .entry)) at ⌝ }
+{
+    heads[at]
+}
+
 // The length of frame `i`.
 fn frame_length(heads: &Heads, i: usize) -> usize
     requires { ⌜ i < 16 ⌝ }
-    ensures { λ r. ⌜ r ≡ getD (now (heads .entry)) (2 * i + 1) 0 ⌝ }
+    ensures { λ r. ⌜ r ≡ headAt (now (heads .entry)) (2 * i + 1) ⌝ }
 {
-    super::wide(heads[2 * i + 1])
+    super::wide(head_word(heads, 2 * i + 1))
 }
 
 // The queue is valid: at most sixteen frames, each of 1 to 256 bytes. The promise is for every room.
@@ -105,7 +113,7 @@ fn write_records(n: usize, heads: &Heads, room: &[u8], out: &mut [u8])
     while i < n {
         let start = super::MAX_FRAME * i;
         let end = start + frame_length(heads, i);
-        at = write_record(out, at, heads[2 * i], &room[start..end]);
+        at = write_record(out, at, head_word(heads, 2 * i), &room[start..end]);
         i += 1;
     }
 }

@@ -1,11 +1,11 @@
 // What a service says, queued: positive and negative frames, and the rule of functional requests.
 ghost use mathlib.Core.Path.{_≡_};
 ghost use Prim.Native.Nat.{_≤_};
-ghost use mathlib.Core.List.{[], _∷_};
-ghost use Rattle.model.specs.Frame.{negativeFrame, positiveFrame};
+ghost use mathlib.Core.List.{_∷_};
+ghost use Rattle.model.specs.Frame.{negativeFrame};
 ghost use Rattle.model.specs.Numbers.{maxFrame};
 ghost use Rattle.queue.specs.Model.{pushed, refused, confirmed, answered, sent};
-ghost use Rattle.queue.specs.View.{queueOf, draftOf, modeOf, replyOf, stepOf, Pushes, Stands};
+ghost use Rattle.queue.specs.View.{queueOf, draftOf, modeOf, replyOf, stepOf, Pushes};
 use super::Heads;
 use super::Room;
 use uds::nrc::Nrc;
@@ -30,10 +30,10 @@ fn push(count: u8, heads: &mut Heads, to: u32, len: usize) -> Pushed
     requires { ⌜ len ≤ 256 ⌝ }
     ensures { λ r. ⌜ Pushes count to len (now (heads .entry)) r (now (heads .exit)) ⌝ }
 {
-    super::words(heads);
     if super::OUTBOX <= count {
         return Pushed { result: 3, count };
     }
+    super::words(heads);
     let at = 2 * (count as usize);
     heads[at] = to;
     heads[at + 1] = len as u32;
@@ -98,18 +98,18 @@ pub fn confirm(
     ensures { λ r. ⌜ stepOf r (now (heads .exit)) (now (room .exit)) ≡ confirmed maxFrame (modeOf functional) (queueOf count (now (heads .entry)) (now (room .entry))) to sid (draftOf count len (now (room .entry))) ⌝ }
 {
     super::size(room);
-    if super::MAX_FRAME <= len {
-        return refuse(
-            count,
-            heads,
-            room,
-            functional,
-            to,
-            sid,
-            Nrc::RESPONSE_TOO_LONG,
-        );
+    if len < super::MAX_FRAME {
+        return send(count, heads, room, to, uds::frame::response(sid), len);
     }
-    send(count, heads, room, to, uds::frame::response(sid), len)
+    refuse(
+        count,
+        heads,
+        room,
+        functional,
+        to,
+        sid,
+        Nrc::RESPONSE_TOO_LONG,
+    )
 }
 
 // What a service says, carried out.

@@ -1,16 +1,14 @@
-use borrow.Author.Needs.{needs}
 use Prim.Native.Nat.{_≤_, _-_}
 use mathlib.Core.Path.{_≡_, refl, _∙_}
 use native.Mathlib.Omega.{arith}
 use native.Mathlib.Numerals.{add-one}
+use denote.Ref.{now}
 use lib.ListN.{length, length-set}
 use lib.Seq.{paste, paste-zero, paste-suc}
-use denote.Ref.{now}
+use borrow.Author.Needs.{needs}
 use Rattle.queue.proofs.Over.{pasted}
 use Rattle.queue.proofs.write.Statement.{statement}
 use Rattle.queue.proofs.write.Tie as tie
-use Rattle.queue.proofs.write.Reads as reads
-use Rattle.queue.proofs.write.Lts as lts
 
 abbrev Inv-loop : tie.InvT-loop
 Inv-loop buffer₀ at bytes k₀ buffer k = (k ≤ length bytes) × (length buffer ≡ length buffer₀) × (buffer ≡ paste buffer₀ at bytes k)
@@ -18,42 +16,33 @@ Inv-loop buffer₀ at bytes k₀ buffer k = (k ≤ length bytes) × (length buff
 abbrev μ-loop : tie.MeasureT-loop
 μ-loop buffer₀ at bytes k₀ buffer k = length bytes - k
 
--- src/lib.rt:37:5
 loop-holds : tie.Need-loop-holds Inv-loop μ-loop
 loop-holds c = (search needs, refl, paste-zero (now (c .args .buffer)) (c .args .at) (now (c .args .bytes)))
 
--- src/lib.rt:38:26
 shared-slice-read-buffer : tie.Need-shared-slice-read-buffer Inv-loop μ-loop
 shared-slice-read-buffer c = search needs
 
--- src/lib.rt:38:16
 add-buffer : tie.Need-add-buffer Inv-loop μ-loop
 add-buffer c = search needs
 
--- src/lib.rt:38:9
 slice-write-buffer : tie.Need-slice-write-buffer Inv-loop μ-loop
 slice-write-buffer c = search needs
 
--- src/lib.rt:39:9
 add-k : tie.Need-add-k Inv-loop μ-loop
 add-k c = search needs
 
--- src/lib.rt:37:5
 loop-less : tie.Need-loop-less Inv-loop μ-loop
 loop-less c = search needs
 
--- src/lib.rt:37:5
 loop-again : tie.Need-loop-again Inv-loop μ-loop
 loop-again c =
     let a = c .before .before .before .args in
     let l = c .before .before .loop in
     (search needs, simp length-set (l .inv .1), rw (l .inv .2, add-one) (paste-suc (now (a .buffer)) (a .at) (now (a .bytes)) (l .k) 0 (omega arith) (omega arith)))
 
--- src/lib.rt:32:1
 same-length : tie.Need-same-length Inv-loop μ-loop
 same-length c = search needs
 
--- src/lib.rt:32:1
 returns : tie.Need-returns Inv-loop μ-loop
 returns c = let a = c .before .before .args in c .before .loop .inv .2 ∙ pasted (now (a .buffer)) (a .at) (now (a .bytes)) (c .before .loop .k) (omega arith)
 

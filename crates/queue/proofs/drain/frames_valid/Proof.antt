@@ -1,10 +1,10 @@
-use borrow.Author.Needs.{needs}
 use Prim.Native.Nat.{ℕ, _≤_, _-_}
 use mathlib.Core.Path.{_≡_, ap, sym, _∙_}
 use mathlib.Core.List.{List}
 use native.Mathlib.Omega.{arith}
 use denote.Ref.{now}
 use lib.ListN.{length}
+use borrow.Author.Needs.{needs}
 use Rattle.model.specs.Tests.{all}
 use Rattle.model.specs.Numbers.{maxFrame, maxOutbox}
 use Rattle.model.specs.Config.{tableWithin}
@@ -15,9 +15,6 @@ use Rattle.queue.specs.View.{roomSize, frameAt, queueOf}
 use Rattle.queue.proofs.Records.{frame-empty, frame-long, frame-right, too-many, few-enough}
 use Rattle.queue.proofs.drain.frames_valid.Statement.{statement}
 use Rattle.queue.proofs.drain.frames_valid.Tie as tie
-use Rattle.queue.proofs.drain.frames_valid.Reads as reads
-use Rattle.queue.proofs.drain.frames_valid.Lts as lts
-use Rattle.queue.proofs.drain.frame_length.Reads as frame-length-reads
 
 abbrev Inv-loop : tie.InvT-loop
 Inv-loop count heads n i₀ i = (i ≤ n) × (n ≤ 16) × ((room : List ℕ) → length room ≡ roomSize → tableWithin maxOutbox (frameValid maxFrame) (queueOf count heads room) ≡ all (frameValid maxFrame) (tab (frameAt heads room) i (n - i)))
@@ -25,43 +22,35 @@ Inv-loop count heads n i₀ i = (i ≤ n) × (n ≤ 16) × ((room : List ℕ) �
 abbrev μ-loop : tie.MeasureT-loop
 μ-loop count heads n i₀ i = n - i
 
--- src/drain.rt:36:9
 returns : tie.Need-returns Inv-loop μ-loop
 returns c = λ room z. too-many (c .before .args .count) (now (c .before .args .heads)) room (c .if1 .taken)
 
--- src/drain.rt:40:5
 loop-holds : tie.Need-loop-holds Inv-loop μ-loop
 loop-holds c =
     let a = c .before .args in
     (search needs, search needs, λ room z. sym (few-enough (a .count) (now (a .heads)) room (c .if1 .left)) ∙ ap (all (frameValid maxFrame)) (tab-all (frameAt (now (a .heads)) room) (a .count)))
 
--- src/drain.rt:41:13
 frame-length-requires : tie.Need-frame-length-requires Inv-loop μ-loop
 frame-length-requires c κs = search needs
 
--- src/drain.rt:43:13
 returns-2 : tie.Need-returns-2 Inv-loop μ-loop
 returns-2 c =
     let a = c .before .before .before .before .before .args in
     let l = c .before .before .before .loop in
     λ room z. broken (frameAt (now (a .heads)) room) (frameValid maxFrame) (a .count) (l .i) _ (l .inv .2 room z) (omega arith) (frame-empty (now (a .heads)) room z (l .i) (omega arith) (sym (c .before .frame-length .ensures) ∙ c .if2 .taken))
 
--- src/drain.rt:46:13
 returns-3 : tie.Need-returns-3 Inv-loop μ-loop
 returns-3 c =
     let a = c .before .before .before .before .before .before .args in
     let l = c .before .before .before .before .loop in
     λ room z. broken (frameAt (now (a .heads)) room) (frameValid maxFrame) (a .count) (l .i) _ (l .inv .2 room z) (omega arith) (frame-long (now (a .heads)) room z (l .i) (omega arith) (omega (arith, c .before .before .frame-length .ensures)))
 
--- src/drain.rt:48:9
 add-i : tie.Need-add-i Inv-loop μ-loop
 add-i c = search needs
 
--- src/drain.rt:40:5
 loop-less : tie.Need-loop-less Inv-loop μ-loop
 loop-less c = search needs
 
--- src/drain.rt:40:5
 loop-again : tie.Need-loop-again Inv-loop μ-loop
 loop-again c =
     let a = c .before .before .before .before .before .before .args in
@@ -71,7 +60,6 @@ loop-again c =
       λ room z. still (frameAt (now (a .heads)) room) (frameValid maxFrame) (a .count) (l .i) _ (l .inv .2 room z) (omega arith) (frame-right (now (a .heads)) room z (l .i) (omega arith) (λ e. c .before .if2 .left (c .before .before .frame-length .ensures ∙ e)) (omega (arith, c .before .before .frame-length .ensures))),
     )
 
--- src/drain.rt:32:1
 returns-4 : tie.Need-returns-4 Inv-loop μ-loop
 returns-4 c =
     let a = c .before .before .before .args in

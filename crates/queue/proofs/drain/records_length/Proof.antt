@@ -1,21 +1,18 @@
-use Rattle.model.specs.Frame.{Frame}
-use borrow.Author.Needs.{needs}
 use Prim.Native.Nat.{ℕ, _+_, _*_, _≤_, _-_}
 use mathlib.Core.Path.{_≡_, ap, sym, _∙_}
 use mathlib.Core.List.{List}
 use native.Mathlib.Omega.{arith}
 use denote.Ref.{now}
 use lib.ListN.{length}
+use borrow.Author.Needs.{needs}
+use Rattle.model.specs.Frame.{Frame}
 use Rattle.model.specs.Drain.{records}
 use Rattle.uds.specs.Table.{tab}
-use Rattle.uds.proofs.Tab.{tab-all, tab-end}
+use Rattle.uds.proofs.Tab.{tab-all}
 use Rattle.queue.specs.View.{roomSize, frameAt, queueOf}
 use Rattle.queue.proofs.Records.{frame-length, left-length, nothing-left}
 use Rattle.queue.proofs.drain.records_length.Statement.{statement}
 use Rattle.queue.proofs.drain.records_length.Tie as tie
-use Rattle.queue.proofs.drain.records_length.Reads as reads
-use Rattle.queue.proofs.drain.records_length.Lts as lts
-use Rattle.queue.proofs.drain.frame_length.Reads as frame-length-reads
 
 abbrev Inv-loop : tie.InvT-loop
 Inv-loop n heads total₀ i₀ total i = (i ≤ n) × (total ≤ 264 * i) × ((room : List ℕ) → length room ≡ roomSize → total + length (records (tab (frameAt heads room) i (n - i))) ≡ length (records (queueOf n heads room)))
@@ -23,33 +20,26 @@ Inv-loop n heads total₀ i₀ total i = (i ≤ n) × (total ≤ 264 * i) × ((r
 abbrev μ-loop : tie.MeasureT-loop
 μ-loop n heads total₀ i₀ total i = n - i
 
--- src/drain.rt:60:5
 loop-holds : tie.Need-loop-holds Inv-loop μ-loop
 loop-holds c =
     let a = c .args in
     (search needs, search needs, λ room z. let e : 0 + length (records (tab (frameAt (now (a .heads)) room) 0 (a .n - 0))) ≡ length (records (tab (frameAt (now (a .heads)) room) 0 (a .n - 0))) = omega arith in e ∙ ap (λ (q : List Frame). length (records q)) (sym (tab-all (frameAt (now (a .heads)) room) (a .n))))
 
--- src/drain.rt:61:22
 frame-length-requires : tie.Need-frame-length-requires Inv-loop μ-loop
 frame-length-requires c κs = omega (arith, c .before .before .pre .few)
 
--- src/drain.rt:61:18
 add-total : tie.Need-add-total Inv-loop μ-loop
 add-total c = omega (arith, c .before .before .before .pre .each (c .before .before .loop .i) (c .before .loop-test .taken), c .frame-length .ensures)
 
--- src/drain.rt:61:9
 add-total-2 : tie.Need-add-total-2 Inv-loop μ-loop
 add-total-2 c = omega (arith, c .before .before .before .pre .few, c .before .before .before .pre .each (c .before .before .loop .i) (c .before .loop-test .taken), c .frame-length .ensures)
 
--- src/drain.rt:62:9
 add-i : tie.Need-add-i Inv-loop μ-loop
 add-i c = omega (arith, c .before .before .before .pre .few)
 
--- src/drain.rt:60:5
 loop-less : tie.Need-loop-less Inv-loop μ-loop
 loop-less c = search needs
 
--- src/drain.rt:60:5
 loop-again : tie.Need-loop-again Inv-loop μ-loop
 loop-again c =
     let a = c .before .before .before .args in
@@ -59,7 +49,6 @@ loop-again c =
       λ room z. omega (arith, l .inv .2 room z, left-length (frameAt (now (a .heads)) room) (a .n) (l .i) (c .before .loop-test .taken), frame-length (now (a .heads)) room z (l .i) (omega (arith, c .before .before .before .pre .few)), c .frame-length .ensures),
     )
 
--- src/drain.rt:54:1
 returns : tie.Need-returns Inv-loop μ-loop
 returns c =
     let a = c .before .before .args in

@@ -1,33 +1,25 @@
-use denote.Ref.{now}
-use mathlib.Core.Path.{_≡_, refl, sym, _∙_}
-use mathlib.Core.Bool.{true, false}
+use mathlib.Core.Path.{_≡_, sym, _∙_}
+use mathlib.Core.Bool.{false}
 use mathlib.Core.Logic.{⊎-elim}
+use denote.Ref.{now}
+use borrow.Author.Needs.{needs}
 use Rattle.model.specs.Reply.{withheld}
 use Rattle.queue.specs.View.{modeOf, queueOf}
 use Rattle.queue.proofs.Laws.{refused-silent, refused-said, unwithheld}
-use borrow.Author.Needs.{needs}
 use Rattle.queue.proofs.reply.refuse.Statement.{statement}
 use Rattle.queue.proofs.reply.refuse.Tie as tie
-use Rattle.queue.proofs.reply.refuse.Reads as reads
-use Rattle.queue.proofs.reply.refuse.Lts as lts
-use Rattle.queue.proofs.reply.negative.Reads as negative-reads
-use Rattle.uds.proofs.nrc.Nrc.withheld.Reads as withheld-reads
 
--- src/reply.rt:77:12
 withheld-requires : tie.Need-withheld-requires
 withheld-requires c κs = search needs
 
--- src/reply.rt:78:13
 returns : tie.Need-returns
 returns c =
     let a = c .before .before .before .args in
     refused-silent (modeOf (a .functional)) (queueOf (a .count) (now (a .heads)) (now (a .room))) (a .to) (a .sid) (a .code) (rw (c .before .before .if1 .taken) (sym (c .before .withheld .ensures) ∙ c .if2 .taken))
 
--- src/reply.rt:84:5
 negative-requires : tie.Need-negative-requires
 negative-requires c κs = search needs
 
--- src/reply.rt:65:1
 returns-2 : tie.Need-returns-2
 returns-2 c =
     let a = c .before .before .before .before .args in

@@ -1,53 +1,39 @@
-use denote.Ref.{now}
-use mathlib.Core.Path.{_≡_, refl, _∙_}
-use mathlib.Core.List.{[], _∷_}
+use mathlib.Core.Path.{_≡_, _∙_}
+use mathlib.Core.List.{_∷_}
 use native.Mathlib.Omega.{arith}
+use denote.Ref.{now}
 use lib.ListN.{length}
+use borrow.Author.Needs.{needs}
 use Rattle.queue.specs.View.{queueOf, draftOf}
 use Rattle.queue.proofs.Room.{leads, draft-length}
 use Rattle.queue.proofs.Laws.{queues, sent-short, sent-long}
-use borrow.Author.Needs.{needs}
 use Rattle.queue.proofs.reply.send.Statement.{statement}
 use Rattle.queue.proofs.reply.send.Tie as tie
-use Rattle.queue.proofs.reply.send.Reads as reads
-use Rattle.queue.proofs.reply.send.Lts as lts
-use Rattle.queue.proofs.place.Reads as place-reads
-use Rattle.queue.proofs.reply.push.Reads as push-reads
-use Rattle.queue.proofs.size.Reads as size-reads
-use Rattle.queue.proofs.write.Reads as write-reads
 
--- src/reply.rt:98:5
 size-requires : tie.Need-size-requires
 size-requires c κs = search needs
 
--- src/reply.rt:100:9
 returns : tie.Need-returns
 returns c =
     let a = c .before .before .before .before .args in
     let z : length (now (a .room)) ≡ 4353 = search needs in
     sent-long (queueOf (a .count) (now (a .heads)) (now (a .room))) (a .to) (a .first ∷ draftOf (a .count) (a .len) (now (a .room))) (omega (arith, draft-length (a .count) (a .len) (now (a .room)) z))
 
--- src/reply.rt:105:9
 place-requires : tie.Need-place-requires
 place-requires c κs = search needs
 
--- src/reply.rt:106:28
 slice-aggregate-write : tie.Need-slice-aggregate-write
 slice-aggregate-write c = search needs
 
--- src/reply.rt:106:5
 write-requires : tie.Need-write-requires
 write-requires c κs = search needs
 
--- src/reply.rt:107:28
 add-push : tie.Need-add-push
 add-push c = search needs
 
--- src/reply.rt:107:5
 push-requires : tie.Need-push-requires
 push-requires c κs = search needs
 
--- src/reply.rt:88:1
 returns-2 : tie.Need-returns-2
 returns-2 c =
     let a = c .before .before .before .before .before .before .before .before .before .before .args in
