@@ -1,9 +1,9 @@
 -- One law for each way out of a function.
-use Prim.Native.Nat.{ℕ, zero, suc, _+_, _-_, _^_, _≤_, _<_}
+use Prim.Native.Nat.{ℕ, _+_, _^_, _≤_, _<_}
 use mathlib.Core.Path.{_≡_, refl, ap, ap₂, sym, _∙_}
-use mathlib.Core.Bool.{Bool, true, false, _&&_, false≢true}
+use mathlib.Core.Bool.{Bool, true, false}
 use mathlib.Core.List.{List}
-use mathlib.Core.Option.{Option, some, none, Option·map, Option·none-ne-some}
+use mathlib.Core.Option.{some, none}
 use native.Mathlib.Omega.{arith}
 use lib.Dec.{eqb}
 use borrow.Author.Tests.{eqb-true, eqb-false, le-leb, lt-leb}
@@ -13,35 +13,15 @@ use Rattle.model.specs.Config.{tableWithin}
 use Rattle.model.specs.State.{Subscription, subscriptionValid}
 use Rattle.model.specs.Service2A.{isSubscription, subscription, renewed}
 use Rattle.model.specs.Tick.{advanced}
+use Rattle.model.proofs.Laws.{left, right}
 use Rattle.uds.specs.declared.table.Found.{Found}
 use Rattle.uds.specs.declared.table.Found.the-variants.{At, Nothing}
 use Rattle.uds.specs.Table.{tab, placeOf}
 use Rattle.uds.specs.Clock.{later}
 use Rattle.uds.proofs.Tab.{tab-same, tab-length}
-use Rattle.periodic.specs.declared.Registered.{Registered}
 use Rattle.periodic.specs.declared.Registered.the-variants.{Stands, Full}
 use Rattle.periodic.specs.View.{entryAt, tableOf, starts, advancedAt, Puts, Registers, Cancels, Advances}
-use Rattle.periodic.proofs.Tables.{enter-known, enter-new, enter-full}
-
--- the row at a place passes the test, and stands in the table
-pub record Passes {B : Type 0} (p : B → Bool) (f : ℕ → B) (k n i : ℕ) : Type 0 where
-  pub below : i < n
-  pub passes : p (f (k + i)) ≡ true
-
-pub passing : {B : Type 0} (p : B → Bool) (f : ℕ → B) (k n i : ℕ) → place p (tab f k n) ≡ some i → Passes p f k n i
-passing p f k zero i e = absurd (Option·none-ne-some i e)
-passing p f k (suc n) i e = go (p (f k)) refl (place p (tab f (suc k) n)) e (passing p f (suc k) n)
-  where
-    go : (b : Bool) → p (f k) ≡ b → (o : Option ℕ) → pick b (some 0) (Option·map suc o) ≡ some i → ((j : ℕ) → o ≡ some j → Passes p f (suc k) n j) → Passes p f k (suc n) i
-    go true q o z ih =
-        let a : i ≡ 0 = cc in
-        let b : k + i ≡ k = omega arith in
-        record { below = omega arith; passes = rw b q }
-    go false q none z ih = absurd (Option·none-ne-some i z)
-    go false q (some j) z ih =
-        let a : i ≡ suc j = cc in
-        let b : k + i ≡ suc k + j = omega arith in
-        record { below = omega (arith, ih j refl .below); passes = rw b (ih j refl .passes) }
+use Rattle.periodic.proofs.Tables.{passing, enter-known, enter-new, enter-full}
 
 -- where a found entry stands
 module _ (w : List ℕ) (count x client : ℕ) (found : Found) (is : placeOf found ≡ place (isSubscription x client) (tableOf count w)) where
@@ -54,7 +34,7 @@ module _ (w : List ℕ) (count x client : ℕ) (found : Found) (is : placeOf fou
   pub below : (i : ℕ) → found ≡ At i → i < count
   below i e = passing (isSubscription x client) (entryAt w) 0 count i (stands i e) .below
 
--- a table that is full is not one that stands
+-- an answer is one or the other
 not-full : (n : ℕ) → Full ≡ Stands n → ⊥
 not-full n e = let z : _≡_ {A = ℕ} 0 1 = cc in omega arith
 
@@ -68,11 +48,7 @@ in-time t interval next fits late = omega arith
 
 -- an entry that passes the test has the identifier and the client
 is-it : (x client : ℕ) (e : Subscription) → isSubscription x client e ≡ true → (e .identifier ≡ x) × (e .client ≡ client)
-is-it x client e h = let b = both (eqb (e .identifier) x) (eqb (e .client) client) h in (eqb-true (e .identifier) x (b .0), eqb-true (e .client) client (b .1))
-  where
-    both : (a b : Bool) → (a && b) ≡ true → (a ≡ true) × (b ≡ true)
-    both true b h = (refl, h)
-    both false b h = absurd (false≢true h)
+is-it x client e h = (eqb-true (e .identifier) x (left (eqb (e .identifier) x) (eqb (e .client) client) h), eqb-true (e .client) client (right (eqb (e .identifier) x) (eqb (e .client) client) h))
 
 -- registering
 module _ (w : List ℕ) (count x client interval t : ℕ) where

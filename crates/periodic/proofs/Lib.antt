@@ -2,3 +2,5 @@ pub mod Tables
 pub mod Without
 pub mod Words
 pub mod Laws
+pub mod Uses
+pub mod Settled

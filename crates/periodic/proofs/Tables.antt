@@ -6,9 +6,8 @@ use mathlib.Core.List.{List, [], _∷_, _++_}
 use mathlib.Core.Option.{Option, some, none, Option·map, Option·none-ne-some, Option·some-ne-none}
 use native.Mathlib.Omega.{arith}
 use lib.ListN.{length}
-use lib.Dec.{ltb}
 use borrow.Author.Tests.{lt-ltb, le-ltb}
-use Rattle.model.specs.Tests.{pick, any, first, place, changeFirst, enter}
+use Rattle.model.specs.Tests.{pick, any, place, changeFirst, enter}
 use Rattle.uds.specs.Table.{tab}
 use Rattle.uds.proofs.Tab.{tab-same, tab-snoc, tab-length}
 
@@ -78,12 +77,22 @@ module _ {B : Type 0} (p : B → Bool) where
       let l : most ≤ length (tab f 0 n) = omega (arith, tab-length f 0 n) in
       rw (any-none (tab f 0 n) e, le-ltb (length (tab f 0 n)) most l)
 
-  -- a row that is not known is not changed
-  pub change-none : (change : B → B) (l : List B) → place p l ≡ none → changeFirst p change l ≡ l
-  change-none change [] e = refl
-  change-none change (a ∷ l) e = go (p a) (place p l) e (change-none change l)
-    where
-      go : (b : Bool) (o : Option ℕ) → pick b (some 0) (Option·map suc o) ≡ none → (o ≡ none → changeFirst p change l ≡ l) → pick b (change a ∷ l) (a ∷ changeFirst p change l) ≡ a ∷ l
-      go true o z ih = absurd (Option·some-ne-none 0 z)
-      go false none z ih = ap (a ∷_) (ih refl)
-      go false (some j) z ih = absurd (Option·some-ne-none (suc j) z)
+-- the row at a place passes the test, and stands in the table
+pub record Passes {B : Type 0} (p : B → Bool) (f : ℕ → B) (k n i : ℕ) : Type 0 where
+  pub below : i < n
+  pub passes : p (f (k + i)) ≡ true
+
+pub passing : {B : Type 0} (p : B → Bool) (f : ℕ → B) (k n i : ℕ) → place p (tab f k n) ≡ some i → Passes p f k n i
+passing p f k zero i e = absurd (Option·none-ne-some i e)
+passing p f k (suc n) i e = go (p (f k)) refl (place p (tab f (suc k) n)) e (passing p f (suc k) n)
+  where
+    go : (b : Bool) → p (f k) ≡ b → (o : Option ℕ) → pick b (some 0) (Option·map suc o) ≡ some i → ((j : ℕ) → o ≡ some j → Passes p f (suc k) n j) → Passes p f k (suc n) i
+    go true q o z ih =
+        let a : i ≡ 0 = cc in
+        let b : k + i ≡ k = omega arith in
+        record { below = omega arith; passes = rw b q }
+    go false q none z ih = absurd (Option·none-ne-some i z)
+    go false q (some j) z ih =
+        let a : i ≡ suc j = cc in
+        let b : k + i ≡ suc k + j = omega arith in
+        record { below = omega (arith, ih j refl .below); passes = rw b (ih j refl .passes) }

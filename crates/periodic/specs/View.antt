@@ -54,7 +54,7 @@ pub record Registers (before : List ℕ) (count x client : ℕ) (interval : Span
   pub full : r ≡ Full → after ≡ before
   pub room : (n : ℕ) → r ≡ Stands n → n ≤ maxPeriodic
 
--- cancelling is the definition's, and leaves no more than stood
+-- cancelling is the definition's, and leaves no more than stood; under a count that no table has every word stays
 pub record Cancels (before : List ℕ) (count x client r : ℕ) (after : List ℕ) : Type 0 where
   pub table : count ≤ maxPeriodic → tableOf r after ≡ without (isSubscription x client) (tableOf count before)
   pub beyond : maxPeriodic < count → after ≡ before
@@ -69,7 +69,7 @@ dueAt count w i t = ltb i count && leb (entryAt w i .next) t
 abbrev pub advancedAt : ℕ → Moment → (ℕ → Subscription) → ℕ → Subscription
 advancedAt i t f j = pick (eqb j i) (advanced (starts t (f j .interval)) (f j)) (f j)
 
--- an entry that stands is advanced by its own interval and the others are as they were, in a table of at most so many; else nothing is changed
+-- an entry that stands is advanced by its own interval, and the others are as they were; where it does not stand, or the count is no table's, every word is
 pub record Advances (before : List ℕ) (count i : ℕ) (t : Moment) (after : List ℕ) : Type 0 where
   pub table : count ≤ maxPeriodic → tableOf count after ≡ tab (advancedAt i t (entryAt before)) 0 count
   pub here : count ≤ maxPeriodic → i < count → entryAt after i ≡ advanced (starts t (entryAt before i .interval)) (entryAt before i)

@@ -20,7 +20,6 @@ pub type Subscriptions = [u64; 64];
 
 const MAX_PERIODIC: u8 = 16;
 
-// An interval is below 2^32, and no moment exceeds 2^48 plus 2^32.
 const MAX_SPAN: u64 = 0x1_0000_0000;
 
 const MAX_MOMENT: u64 = 0x1_0001_0000_0000;
@@ -203,10 +202,17 @@ pub fn advance(subs: &mut Subscriptions, count: u8, i: usize, t: Instant)
     put(subs, i, e);
 }
 
+// An interval is a span below 2^32, and no moment exceeds 2^48 plus 2^32.
 fn entry_valid(e: PeriodicEntry) -> bool
     ensures { λ r. ⌜ r ≡ subscriptionValid (entryOf e) ⌝ }
 {
-    e.interval.0 < MAX_SPAN && e.next.0 <= MAX_MOMENT
+    if MAX_SPAN <= e.interval.0 {
+        return false;
+    }
+    if MAX_MOMENT < e.next.0 {
+        return false;
+    }
+    true
 }
 
 // At most sixteen entries stand, and each keeps the numbers.
@@ -216,9 +222,10 @@ pub fn subscriptions_valid(subs: &Subscriptions, count: u8) -> bool
     if MAX_PERIODIC < count {
         return false;
     }
-    let mut i: u8 = 0;
-    while i < count {
-        if !entry_valid(entry_at(subs, i as usize)) {
+    let n = count as usize;
+    let mut i: usize = 0;
+    while i < n {
+        if !entry_valid(entry_at(subs, i)) {
             return false;
         }
         i += 1;

@@ -20,7 +20,7 @@ abbrev μ-loop : tie.MeasureT-loop
 μ-loop subs₀ count identifier client kept₀ i₀ subs kept i = count - i
 
 returns : tie.Need-returns Inv-loop μ-loop
-returns c = let a = c .before .args in cancel-beyond (now (a .subs)) (a .count) (a .identifier) (a .client) (c .if1 .taken)
+returns c = let a = c .before .args in cancel-beyond (now (a .subs)) (a .count) (a .identifier) (a .client) (omega arith)
 
 loop-holds : tie.Need-loop-holds Inv-loop μ-loop
 loop-holds c = let a = c .before .args in (omega arith, omega arith, start (isSubscription (a .identifier) (a .client)) (entryAt (now (a .subs))) (a .count))
@@ -71,7 +71,7 @@ loop-again-2 c = let a = c .before .before .before .before .before .before .befo
 returns-2 : tie.Need-returns-2 Inv-loop μ-loop
 returns-2 c = let a = c .before .before .before .args in
     let l = c .before .loop in
-    cancel-kept (now (a .subs)) (a .count) (a .identifier) (a .client) (l .kept) (l .subs) (c .before .before .if1 .left) (omega arith) (ended (isSubscription (a .identifier) (a .client)) (entryAt (l .subs)) (a .count) (l .kept) (l .i) _ (l .inv .2) (omega arith))
+    cancel-kept (now (a .subs)) (a .count) (a .identifier) (a .client) (l .kept) (l .subs) (omega arith) (omega arith) (ended (isSubscription (a .identifier) (a .client)) (entryAt (l .subs)) (a .count) (l .kept) (l .i) _ (l .inv .2) (omega arith))
 
 pub cancel-spec : {M : Type 1} → statement M
 cancel-spec =

@@ -15,19 +15,16 @@ use Rattle.periodic.proofs.subscriptions_valid.Statement.{statement}
 use Rattle.periodic.proofs.subscriptions_valid.Tie as tie
 
 abbrev Inv-loop : tie.InvT-loop
-Inv-loop subs count i₀ i = (i ≤ count) × (all subscriptionValid (tableOf count subs) ≡ all subscriptionValid (tab (entryAt subs) i (count - i)))
+Inv-loop subs count n i₀ i = (i ≤ count) × (all subscriptionValid (tableOf count subs) ≡ all subscriptionValid (tab (entryAt subs) i (count - i)))
 
 abbrev μ-loop : tie.MeasureT-loop
-μ-loop subs count i₀ i = count - i
+μ-loop subs count n i₀ i = count - i
 
 returns : tie.Need-returns Inv-loop μ-loop
-returns c = let a = c .before .args in valid-beyond (now (a .subs)) (a .count) (c .if1 .taken)
+returns c = let a = c .before .args in valid-beyond (now (a .subs)) (a .count) (omega arith)
 
 loop-holds : tie.Need-loop-holds Inv-loop μ-loop
 loop-holds c = let a = c .before .args in (omega arith, ap (all subscriptionValid) (tab-all (entryAt (now (a .subs))) (a .count)))
-
-cast-entry-at : tie.Need-cast-entry-at Inv-loop μ-loop
-cast-entry-at c = search needs
 
 entry-at-requires : tie.Need-entry-at-requires Inv-loop μ-loop
 entry-at-requires c κs = search needs
@@ -38,7 +35,7 @@ entry-valid-requires c κs = search needs
 returns-2 : tie.Need-returns-2 Inv-loop μ-loop
 returns-2 c = let a = c .before .before .before .before .before .before .args in
     let l = c .before .before .before .before .loop in
-    valid-within (now (a .subs)) (a .count) false (c .before .before .before .before .before .if1 .left)
+    valid-within (now (a .subs)) (a .count) false (omega arith)
     (broken (entryAt (now (a .subs))) subscriptionValid (a .count) (l .i) _ (l .inv .1) (omega arith) (sym (c .before .entry-valid .ensures ∙ ap subscriptionValid (c .before .before .entry-at .ensures)) ∙ not-true _ (c .if2 .taken)))
 
 add-i : tie.Need-add-i Inv-loop μ-loop
@@ -55,7 +52,7 @@ loop-again c = let a = c .before .before .before .before .before .before .args i
 returns-3 : tie.Need-returns-3 Inv-loop μ-loop
 returns-3 c = let a = c .before .before .before .args in
     let l = c .before .loop in
-    valid-within (now (a .subs)) (a .count) true (c .before .before .if1 .left) (kept (entryAt (now (a .subs))) subscriptionValid (a .count) (l .i) _ (l .inv .1) (omega arith))
+    valid-within (now (a .subs)) (a .count) true (omega arith) (kept (entryAt (now (a .subs))) subscriptionValid (a .count) (l .i) _ (l .inv .1) (omega arith))
 
 pub subscriptions-valid-spec : {M : Type 1} → statement M
 subscriptions-valid-spec =
@@ -65,7 +62,6 @@ subscriptions-valid-spec =
     μ-loop
     returns
     loop-holds
-    cast-entry-at
     entry-at-requires
     entry-valid-requires
     returns-2
