@@ -15,7 +15,7 @@ use Rattle.model.specs.Reply as Definition
 use Rattle.model.specs.Reply.{replied}
 use Rattle.model.specs.Service as Rules
 use Rattle.model.proofs.Valid.Parts.{p2Ext-below}
-use Rattle.uds.specs.View.{configOf}
+use Rattle.config.specs.View.{configOf}
 use Rattle.uds.specs.Clock.{later}
 use Rattle.queue.specs.View.{queueOf, replyOf, modeOf}
 use Rattle.queue.specs.View as Queue

@@ -16,7 +16,7 @@ use Rattle.model.specs.Reply.{replied}
 use Rattle.model.specs.Service as Rules
 use Rattle.model.specs.Service27.{isFailed, forget, seeded}
 use Rattle.uds.specs.Table.{tab}
-use Rattle.uds.specs.View.{configOf}
+use Rattle.config.specs.View.{configOf}
 use Rattle.queue.specs.View.{queueOf, replyOf, modeOf}
 use Rattle.queue.specs.declared.reply.Reply.{Reply}
 use Rattle.queue.specs.declared.reply.Reply.the-variants.{Silent, Positive, Negative, Always, Pends}

@@ -5,7 +5,7 @@ ghost use mathlib.Core.List.{List};
 ghost use Prim.Native.Nat.{ℕ, _≤_};
 ghost use Rattle.model.specs.Numbers.{maxTime};
 ghost use Rattle.model.specs.Config.{within};
-ghost use Rattle.uds.specs.View.{configOf};
+ghost use Rattle.config.specs.View.{configOf};
 ghost use Rattle.server.specs.View.{pendsOf, Changes, Readies, Replies, Applies};
 use super::security::SecurityState;
 use super::state::PendingRequest;
@@ -15,7 +15,7 @@ use queue::Heads;
 use queue::Room;
 use queue::reply::Reply;
 use uds::clock::Instant;
-use uds::config::Config;
+use config::Config;
 
 // What a service wants: the three records as they are to be, the reply, and whether the change waits until the reply is queued.
 #[repr(C)]
@@ -71,8 +71,8 @@ fn readied(config: &Config, s: State, to: u32, sid: u8, t: Instant, reply: Reply
         return s;
     }
     let session = s.session;
-    let found = uds::config::find_session(config, session.session_type);
-    let deadline = t.plus(uds::config::p2_ext(config, found));
+    let found = config::find_session(config, session.session_type);
+    let deadline = t.plus(config::p2_ext(config, found));
     let pending = PendingRequest {
         deadline,
         dst: to,

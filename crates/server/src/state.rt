@@ -3,7 +3,7 @@ ghost use mathlib.Core.Path.{_≡_};
 ghost use mathlib.Core.List.{List};
 ghost use mathlib.Core.Option.{none};
 ghost use Prim.Native.Nat.{ℕ};
-ghost use Rattle.uds.specs.View.{configOf};
+ghost use Rattle.config.specs.View.{configOf};
 ghost use Rattle.model.specs.State as Model;
 ghost use Rattle.server.specs.View.{sessionOf, pendingOf, stateOf};
 use super::security::SecurityState;

@@ -12,8 +12,8 @@ use Rattle.server.proofs.apply.readied.Reads as reads
 use Rattle.server.proofs.apply.readied.Lts as lts
 use Rattle.server.proofs.apply.pends.Reads as pends-reads
 use Rattle.uds.proofs.clock.Instant.plus.Reads as plus-reads
-use Rattle.uds.proofs.config.find_session.Reads as find-session-reads
-use Rattle.uds.proofs.config.p2_ext.Reads as p2-ext-reads
+use Rattle.config.proofs.find_session.Reads as find-session-reads
+use Rattle.config.proofs.p2_ext.Reads as p2-ext-reads
 
 -- src/apply.rt:70:9
 pends-requires : tie.Need-pends-requires
