@@ -1,0 +1,4 @@
+// The server: what it holds, and its calls.
+pub mod apply;
+pub mod security;
+pub mod state;

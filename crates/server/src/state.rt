@@ -1,0 +1,103 @@
+// What a server holds: small by value. The configuration, the subscriptions and the waiting frames are lent beside it.
+ghost use mathlib.Core.Path.{_≡_};
+ghost use mathlib.Core.List.{List};
+ghost use mathlib.Core.Option.{none};
+ghost use Prim.Native.Nat.{ℕ};
+ghost use Rattle.config.specs.View.{configOf};
+ghost use Rattle.model.specs.State as Model;
+ghost use Rattle.server.specs.View.{sessionOf, pendingOf, stateOf};
+use super::security::SecurityState;
+use uds::clock::Instant;
+
+// The session, the held security level, and when the last request came.
+#[repr(C)]
+pub struct SessionState {
+    pub last_rx: Instant,
+    pub session_type: u8,
+    pub level: u8,
+}
+
+impl SessionState {
+    pub fn new() -> SessionState
+        ensures { λ r. ⌜ sessionOf r ≡ Model.freshSession ⌝ }
+    {
+        SessionState {
+            last_rx: Instant::ZERO,
+            session_type: 1,
+            level: 0,
+        }
+    }
+
+    // Another session: no level is held in it yet.
+    pub fn opened(self, session_type: u8) -> SessionState
+        ensures { λ r. ⌜ sessionOf r ≡ Model.opened (sessionOf self) «session_type» ⌝ }
+    {
+        let last_rx = self.last_rx;
+        SessionState {
+            last_rx,
+            session_type,
+            level: 0,
+        }
+    }
+
+    pub fn unlocked(self, level: u8) -> SessionState
+        ensures { λ r. ⌜ sessionOf r ≡ Model.unlocked (sessionOf self) level ⌝ }
+    {
+        let last_rx = self.last_rx;
+        SessionState {
+            last_rx,
+            session_type: self.session_type,
+            level,
+        }
+    }
+}
+
+// A request that was answered 0x78, if one was: whom to answer, for which service, and when 0x78 is due again.
+#[repr(C)]
+pub struct PendingRequest {
+    pub deadline: Instant,
+    pub dst: u32,
+    pub sid: u8,
+    pub on: bool,
+}
+
+impl PendingRequest {
+    // None is pending.
+    pub fn new() -> PendingRequest
+        ensures { λ r. ⌜ pendingOf r ≡ none ⌝ }
+    {
+        PendingRequest {
+            deadline: Instant::ZERO,
+            dst: 0,
+            sid: 0,
+            on: false,
+        }
+    }
+}
+
+// Widest first. How many subscriptions stand and how many frames wait is counted here; they themselves are lent.
+#[repr(C)]
+pub struct State {
+    pub security: SecurityState,
+    pub session: SessionState,
+    pub pending: PendingRequest,
+    pub subscriptions: u8,
+    pub frames: u8,
+    pub functional: bool,
+}
+
+impl State {
+    // The fresh server of a configuration, whatever stands in what is lent.
+    pub fn new() -> State
+        ensures { λ r. ⌜ ((config subs heads room : List ℕ) → stateOf config r subs heads room ≡ Model.freshState (configOf config)) ⌝ }
+    {
+        State {
+            security: SecurityState::new(),
+            session: SessionState::new(),
+            pending: PendingRequest::new(),
+            subscriptions: 0,
+            frames: 0,
+            functional: false,
+        }
+    }
+}
