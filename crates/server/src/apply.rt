@@ -11,11 +11,11 @@ use super::security::SecurityState;
 use super::state::PendingRequest;
 use super::state::SessionState;
 use super::state::State;
+use config::Config;
 use queue::Heads;
 use queue::Room;
 use queue::reply::Reply;
 use uds::clock::Instant;
-use config::Config;
 
 // What a service wants: the three records as they are to be, the reply, and whether the change waits until the reply is queued.
 #[repr(C)]
