@@ -1,16 +1,16 @@
 -- What a search among levels tells of the counts and the locks.
-use Prim.Native.Nat.{ℕ, _+_, _≤_, _<_, min}
+use Prim.Native.Nat.{ℕ, suc, _+_, _≤_, _<_, min}
 use mathlib.Core.Path.{_≡_, refl, ap, ap₂, sym, _∙_}
 use mathlib.Core.Bool.{Bool, true, false}
 use mathlib.Core.List.{List, [], _∷_, _++_}
-use mathlib.Core.Option.{Option, some, none, Option·map}
+use mathlib.Core.Option.{Option, some, none, Option·map, Option·some-ne-none}
 use native.Mathlib.Omega.{arith}
 use native.Mathlib.Numerals.{add-one}
 use lib.ListN.{length, take, set}
 use lib.Seq.{getD-set-same, getD-set-other, take-suc}
 use lib.Dec.{ltb}
 use borrow.Author.Tests.{lt-ltb, le-ltb, le-leb, lt-leb}
-use Rattle.model.specs.Tests.{pick, all, place, enter}
+use Rattle.model.specs.Tests.{pick, all, place, changeFirst, enter}
 use Rattle.model.specs.Numbers.{maxLevels}
 use Rattle.model.specs.State.{Failed, Lock, Security, cleared, momentValid, lockValid, securityValid}
 use Rattle.model.specs.Service27.{isFailed, isLock, holds, countOf, locked, failedCount, raise, forget, relock, incrementFailed, setLockout}
@@ -21,7 +21,7 @@ use Rattle.uds.specs.declared.table.Found.the-variants.{At, Nothing}
 use Rattle.uds.proofs.Tab.{finds, tab-length, tab-same, tab-snoc, all-same}
 use Rattle.server.specs.View.{entry, failedAt, lockAt, securityOf, withFailed, withLocks, Counts, Enters, FirstFailed, FirstLock, Resets, Seeds}
 use Rattle.server.specs.declared.security.Entered.{Entered}
-use Rattle.server.proofs.Tables.{any-none, change-at, change-none, enter-known}
+use Rattle.periodic.proofs.Tables.{any-none, change-at, enter-known}
 use Rattle.server.specs.declared.security.SecurityState.{SecurityState}
 
 -- where an entry was found there is one
@@ -56,6 +56,17 @@ module _ (k : SecurityState) (level : ℕ) (r : Found) where
 
     pub failed-below : (i : ℕ) → r ≡ At i → i < k .failed
     failed-below i h = found-below (isKey level) (entry (k .«failed_levels»)) (k .failed) i (sym e ∙ ap placeOf h)
+
+module _ {B : Type 0} (p : B → Bool) where
+  -- a row that is not known is not changed
+  pub change-none : (change : B → B) (l : List B) → place p l ≡ none → changeFirst p change l ≡ l
+  change-none change [] e = refl
+  change-none change (a ∷ l) e = go (p a) (place p l) e (change-none change l)
+    where
+      go : (b : Bool) (o : Option ℕ) → pick b (some 0) (Option·map suc o) ≡ none → (o ≡ none → changeFirst p change l ≡ l) → pick b (change a ∷ l) (a ∷ changeFirst p change l) ≡ a ∷ l
+      go true o z ih = absurd (Option·some-ne-none 0 z)
+      go false none z ih = ap (a ∷_) (ih refl)
+      go false (some j) z ih = absurd (Option·some-ne-none (suc j) z)
 
 -- an array with one entry set
 pub entry-same : (l : List ℕ) (i x : ℕ) → i < length l → entry (set l i x) i ≡ x
