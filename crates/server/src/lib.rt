@@ -2,3 +2,4 @@
 pub mod apply;
 pub mod security;
 pub mod state;
+pub mod valid;
