@@ -1,3 +1,4 @@
 pub mod Levels
 pub mod Applied
 pub mod Kept
+pub mod Begun

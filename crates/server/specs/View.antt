@@ -27,6 +27,8 @@ use Rattle.server.specs.declared.state.PendingRequest.{PendingRequest}
 use Rattle.server.specs.declared.state.State.{State}
 use Rattle.server.specs.declared.apply.Effect.{Effect}
 use Rattle.server.specs.declared.apply.Answer.{Answer}
+use Rattle.server.specs.declared.fresh.Server.{Server}
+use Rattle.server.specs.declared.fresh.Fresh.{Fresh}
 use Rattle.server.specs.declared.security.Entered.{Entered}
 
 -- an entry of an array, 0 past its end
@@ -143,3 +145,10 @@ pub record Replies (config : List ℕ) (s : State) (heads room : List ℕ) (to s
 -- an effect carried out, whatever the subscriptions
 pub record Applies (config : List ℕ) (s : State) (heads room : List ℕ) (to sid t : ℕ) (e : Effect) (r : Answer) (heads' room' : List ℕ) : Type 0 where
   pub step : (subs : List ℕ) → stepOf config r subs heads' room' ≡ Rules.apply maxFrame (stateOf config s subs heads room) to sid t (effectOf e subs (s .frames) room)
+
+-- the server that holds its arrays
+abbrev pub serverOf : Server → Model.State
+serverOf v = stateOf (v .config) (v .state) (v .subscriptions) (v .heads) (v .room)
+
+abbrev pub freshOf : Fresh → Model.Step
+freshOf r = record { result = r .result; state = serverOf (r .server) }
