@@ -29,6 +29,7 @@ use Rattle.model.specs.Service37.{service37}
 use Rattle.model.specs.Service38.{service38}
 use Rattle.model.specs.Request.{Inbound, Answer, service, guarded, seen, served, carried, lengthFits, heard, addressed, routed, request}
 use Rattle.model.specs.Question.{bare, askedOf, question}
+use Rattle.model.proofs.Blind.{sighted}
 use Rattle.model.proofs.Laws.{alike, memb-each}
 use Rattle.model.proofs.Leaves.Replies.{apply-gives}
 
@@ -41,18 +42,7 @@ SameAnswer a b = a .act ≡ b .act
 
 -- what a service sees, with another outcome and value table
 abbrev pub handed : Seen → Given → Table → Seen
-handed v g t = record {
-  limit = v .limit;
-  config = v .config;
-  session = v .session;
-  security = v .security;
-  periodic = v .periodic;
-  now = v .now;
-  src = v .src;
-  payload = v .payload;
-  given = g;
-  table = t;
-}
+handed v g t = sighted v (v .payload) g t
 
 module _ (v : Seen) (g : Given) (t : Table) where
   -- the same request with the other outcome and table

@@ -6,7 +6,7 @@ use mathlib.Core.Option.{Option, some, none}
 use lib.ListN.{length, drop, getD}
 use Rattle.model.specs.Numbers.{maxDownload}
 use Rattle.model.specs.Config.{SessionConfig, SecurityLevelConfig, findSession, findLevel, lockoutOf}
-use Rattle.model.specs.Values.{Outcome, bytes, error, Table, outcome}
+use Rattle.model.specs.Values.{Outcome, bytes, error, Given, Table, outcome}
 use Rattle.model.specs.Frame.{subFunction, periodicDid}
 use Rattle.model.specs.State.{Subscription, Failed, Lock}
 use Rattle.model.specs.Reply.{Reply, positive}
@@ -25,9 +25,9 @@ use Rattle.model.specs.Service36.{transferred, service36}
 use Rattle.model.specs.Service37.{service37}
 use Rattle.model.specs.Service38.{service38}
 
--- the same sight with another payload and another table
-abbrev pub seeing : Seen → List ℕ → Table → Seen
-seeing v p t = record {
+-- the same sight with another payload, outcome and table
+abbrev pub sighted : Seen → List ℕ → Given → Table → Seen
+sighted v p g t = record {
   limit = v .limit;
   config = v .config;
   session = v .session;
@@ -36,9 +36,13 @@ seeing v p t = record {
   now = v .now;
   src = v .src;
   payload = p;
-  given = v .given;
+  given = g;
   table = t;
 }
+
+-- the outcome being the same
+abbrev pub seeing : Seen → List ℕ → Table → Seen
+seeing v p t = sighted v p (v .given) t
 
 -- 27: neither the payload nor the table is seen once level and key length are known
 module _ (v : Seen) (p q : List ℕ) (t u : Table) where
