@@ -3,22 +3,20 @@ use Prim.Native.Nat.{ℕ, suc, _+_, _%_}
 use mathlib.Core.Path.{_≡_, refl}
 use mathlib.Core.Bool.{Bool, true, false}
 use mathlib.Core.List.{List, [], _∷_, _++_}
-use mathlib.Core.Option.{some}
 use native.Mathlib.Omega.{arith}
 use lib.ListN.{length, length-append}
 use lib.Dec.{eqb, leb, ltb}
 use borrow.Author.Tests.{lt-leb, leb-false}
 use Rattle.model.specs.Tests.{pick}
 use Rattle.model.specs.Numbers.{Moment, maxOutbox}
-use Rattle.model.specs.Config.{findSession, p2ExtOf}
 use Rattle.model.specs.Values.{bytes}
 use Rattle.model.specs.Frame.{Frame, positiveFrame, negativeFrame}
-use Rattle.model.specs.State.{State, Step, Subscription, step, withQueue, withPending}
+use Rattle.model.specs.State.{State, Step, Subscription, step, withQueue}
 use Rattle.model.specs.Reply as Definition
 use Rattle.model.specs.Reply.{Reply, silent, positive, negative, always, pends, queued, withheld, begun, replied}
 use Rattle.model.specs.Service22.{appended, readReply}
 use Rattle.model.specs.Tick.{Passed, stopped, advanced, dueSent}
-use Rattle.queue.specs.Model.{QueueStep, pushed, refused, confirmed, answered, sent}
+use Rattle.queue.specs.Model.{QueueStep, pushed, refused, confirmed, answered, sent, readied}
 
 -- a step of the queue taken into the state
 abbrev pub taken : State → QueueStep → Step
@@ -50,14 +48,6 @@ confirmed-confirmed limit s to sid p = go (leb (suc (length p)) limit)
     go : (b : Bool) → pick b (queued s to (positiveFrame sid p)) (Definition.refused s to sid 0x14) ≡ taken s (pick b (pushed (s .queue) to (positiveFrame sid p)) (refused (s .mode) (s .queue) to sid 0x14))
     go true = queued-pushed s to (positiveFrame sid p)
     go false = refused-refused s to sid 0x14
-
--- the state in which a reply is queued: a request that becomes pending is so before it says 0x78
-abbrev pub readied : State → ℕ → ℕ → Moment → Reply → State
-readied s to sid now silent = s
-readied s to sid now (positive p) = s
-readied s to sid now (negative code) = s
-readied s to sid now (always code) = s
-readied s to sid now pends = withPending s (some (record { dst = to; sid = sid; deadline = now + p2ExtOf (findSession (s .config) (s .session .sessionType)) }))
 
 pub replied-answered : (limit : ℕ) (s : State) (to sid : ℕ) (now : Moment) (r : Reply) → replied limit s to sid now r ≡ taken (readied s to sid now r) (answered limit (s .mode) (s .queue) to sid r)
 unfolding replied begun answered

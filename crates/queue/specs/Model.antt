@@ -1,14 +1,15 @@
 -- What the definition's replies do to the queue alone. Each is the definition's step of the same name with the state left out; that they
 -- agree is proved.
-use Prim.Native.Nat.{ℕ, suc}
+use Prim.Native.Nat.{ℕ, suc, _+_}
 use mathlib.Core.List.{List, [], _∷_, _++_}
+use mathlib.Core.Option.{some}
 use lib.ListN.{length, drop}
 use lib.Dec.{leb, ltb}
 use Rattle.model.specs.Tests.{pick}
-use Rattle.model.specs.Numbers.{maxOutbox}
+use Rattle.model.specs.Numbers.{Moment, maxOutbox}
 use Rattle.model.specs.Frame.{Frame, positiveFrame, negativeFrame}
-use Rattle.model.specs.Config.{tableWithin}
-use Rattle.model.specs.State.{AddressMode, frameValid}
+use Rattle.model.specs.Config.{findSession, p2ExtOf, tableWithin}
+use Rattle.model.specs.State.{AddressMode, State, withPending, frameValid}
 use Rattle.model.specs.Reply.{Reply, silent, positive, negative, always, pends, withheld}
 use Rattle.model.specs.Drain.{records}
 
@@ -62,3 +63,11 @@ written q buffer = record { result = 0; frames = length q; queue = []; buffer = 
 unfoldable pub drained : ℕ → List Frame → List ℕ → QueueDrain
 drained limit q buffer =
     pick (tableWithin maxOutbox (frameValid limit) q) (pick (leb (length (records q)) (length buffer)) (written q buffer) (unmoved 5 q buffer)) (unmoved 10 q buffer)
+
+-- the state in which a reply is queued: a request that becomes pending is so before it says 0x78
+abbrev pub readied : State → ℕ → ℕ → Moment → Reply → State
+readied s to sid now silent = s
+readied s to sid now (positive p) = s
+readied s to sid now (negative code) = s
+readied s to sid now (always code) = s
+readied s to sid now pends = withPending s (some (record { dst = to; sid = sid; deadline = now + p2ExtOf (findSession (s .config) (s .session .sessionType)) }))

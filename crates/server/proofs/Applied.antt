@@ -1,13 +1,11 @@
 -- What an effect leaves, as laws over what the functions below it promise.
-use Prim.Native.Nat.{ℕ, _+_, _^_, _≤_, _<_, min}
+use Prim.Native.Nat.{ℕ, _+_, _≤_, _<_}
 use mathlib.Core.Path.{_≡_, refl, ap, ap₂, sym, _∙_}
-use mathlib.Core.Bool.{Bool, true, false, false≢true}
+use mathlib.Core.Bool.{true, false, false≢true}
 use mathlib.Core.List.{List}
 use mathlib.Core.Option.{some, none}
 use native.Mathlib.Omega.{arith}
-use lib.Dec.{eqb}
-use borrow.Author.Tests.{eq-eqb, ne-eqb}
-use Rattle.model.specs.Tests.{pick}
+use borrow.Author.Tests.{ne-eqb}
 use Rattle.model.specs.Numbers.{maxFrame, maxTime, maxSpan}
 use Rattle.model.specs.Config.{findSession, p2ExtOf, within}
 use Rattle.model.specs.State as Model
@@ -19,13 +17,13 @@ use Rattle.config.specs.View.{configOf}
 use Rattle.uds.specs.Clock.{later}
 use Rattle.queue.specs.View.{queueOf, replyOf, modeOf}
 use Rattle.queue.specs.View as Queue
-use Rattle.queue.specs.Model.{answered}
+use Rattle.queue.specs.Model.{answered, readied}
 use Rattle.queue.specs.declared.reply.Reply.{Reply}
 use Rattle.queue.specs.declared.reply.Reply.the-variants.{Silent, Positive, Negative, Always, Pends}
 use Rattle.queue.specs.declared.reply.Pushed.{Pushed}
 use Rattle.queue.proofs.Replied as Replied
 use Rattle.periodic.specs.View.{tableOf}
-use Rattle.server.specs.View.{securityOf, sessionOf, pendingOf, stateOf, stepOf, effectOf, pendsOf, readied, Changes, Readies, Replies, Applies}
+use Rattle.server.specs.View.{securityOf, sessionOf, pendingOf, stateOf, stepOf, effectOf, pendsOf, Changes, Readies, Replies, Applies}
 use Rattle.server.specs.declared.security.SecurityState.{SecurityState}
 use Rattle.server.specs.declared.state.SessionState.{SessionState}
 use Rattle.server.specs.declared.state.PendingRequest.{PendingRequest}
@@ -54,14 +52,6 @@ is-pends (Negative code) e = absurd (false≢true e)
 is-pends (Always code) e = absurd (false≢true e)
 is-pends Pends e = refl
 
--- the two ways of naming the state in which a reply is queued
-readied-same : (s : Model.State) (to sid t : ℕ) (r : Definition.Reply) → Replied.readied s to sid t r ≡ readied s to sid t r
-readied-same s to sid t Definition.silent = refl
-readied-same s to sid t (Definition.positive p) = refl
-readied-same s to sid t (Definition.negative code) = refl
-readied-same s to sid t (Definition.always code) = refl
-readied-same s to sid t Definition.pends = refl
-
 -- one that does sets the deadline to now plus P2* of the session
 pub pending-set : (w : List ℕ) (s : State) (to sid t : ℕ) (r : Reply) (deadline p2 : ℕ) → pendsOf r ≡ true → deadline ≡ later t p2
     → p2 ≡ p2ExtOf (findSession (configOf w) (s .session .«session_type»)) → within (configOf w) ≡ true → t ≤ maxTime
@@ -83,7 +73,7 @@ reply-taken w s ready heads room to sid t r p heads' room' a e = record {
   step = λ subs.
       let m = stateOf w s subs heads room in
       let q = replyOf r (s .frames) room in
-      ap₂ Replied.taken (a .state subs heads room (s .frames) ∙ sym (readied-same m to sid t q)) e ∙ sym (Replied.replied-answered maxFrame m to sid t q);
+      ap₂ Replied.taken (a .state subs heads room (s .frames)) e ∙ sym (Replied.replied-answered maxFrame m to sid t q);
 }
 
 -- a change that waits is not made where the reply met a result

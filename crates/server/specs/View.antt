@@ -1,5 +1,5 @@
 -- From the program's records to the definition's.
-use Prim.Native.Nat.{ℕ, _+_, _≤_}
+use Prim.Native.Nat.{ℕ, _≤_}
 use mathlib.Core.Path.{_≡_}
 use mathlib.Core.Bool.{Bool, true, false}
 use mathlib.Core.List.{List, [], _∷_, _++_}
@@ -9,14 +9,14 @@ use lib.Dec.{leb, ltb}
 use Rattle.model.specs.Tests.{pick, changeFirst}
 use Rattle.model.specs.Numbers.{maxFrame}
 use Rattle.model.specs.State as Model
-use Rattle.model.specs.State.{Failed, Lock, Security, Session, Subscription, cleared}
-use Rattle.model.specs.Config.{findSession, p2ExtOf}
+use Rattle.model.specs.State.{Failed, Lock, Security, Session, cleared}
 use Rattle.model.specs.Reply as Definition
 use Rattle.model.specs.Reply.{replied}
 use Rattle.model.specs.Service as Rules
 use Rattle.model.specs.Service27.{isFailed, forget, seeded}
 use Rattle.uds.specs.Table.{tab}
 use Rattle.config.specs.View.{configOf}
+use Rattle.queue.specs.Model.{readied}
 use Rattle.queue.specs.View.{queueOf, replyOf, modeOf}
 use Rattle.queue.specs.declared.reply.Reply.{Reply}
 use Rattle.queue.specs.declared.reply.Reply.the-variants.{Silent, Positive, Negative, Always, Pends}
@@ -128,13 +128,6 @@ pendsOf (Always code) = false
 pendsOf Pends = true
 
 -- a request that becomes pending is so before it says 0x78
-abbrev pub readied : Model.State → ℕ → ℕ → ℕ → Definition.Reply → Model.State
-readied s to sid t Definition.silent = s
-readied s to sid t (Definition.positive p) = s
-readied s to sid t (Definition.negative code) = s
-readied s to sid t (Definition.always code) = s
-readied s to sid t Definition.pends = Model.withPending s (some (record { dst = to; sid = sid; deadline = t + p2ExtOf (findSession (s .config) (s .session .sessionType)) }))
-
 pub record Readies (config : List ℕ) (s : State) (to sid t : ℕ) (reply : Reply) (r : State) : Type 0 where
   pub state : (subs heads room : List ℕ) (count : ℕ) → stateOf config r subs heads room ≡ readied (stateOf config s subs heads room) to sid t (replyOf reply count room)
 
