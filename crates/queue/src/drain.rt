@@ -37,8 +37,8 @@ fn frame_length(heads: &Heads, i: usize) -> usize
     super::wide(head_word(heads, 2 * i + 1))
 }
 
-// The queue is valid: at most sixteen frames, each of 1 to 256 bytes. The promise is for every room.
-pub fn frames_valid(count: u8, heads: &Heads) -> bool
+// At most sixteen frames are counted, and each has 1 to 256 bytes. The promise is for every room.
+fn heads_valid(count: u8, heads: &Heads) -> bool
     ensures { λ r. ⌜ ((room : List ℕ) → length room ≡ roomSize → r ≡ tableWithin maxOutbox (frameValid maxFrame) (queueOf count (now (heads .entry)) room)) ⌝ }
 {
     if super::OUTBOX < count {
@@ -57,6 +57,14 @@ pub fn frames_valid(count: u8, heads: &Heads) -> bool
         i += 1;
     }
     true
+}
+
+// The queue is valid: that stands in the heads alone, since every room has all its places.
+pub fn frames_valid(count: u8, heads: &Heads, room: &Room) -> bool
+    ensures { λ r. ⌜ r ≡ tableWithin maxOutbox (frameValid maxFrame) (queueOf count (now (heads .entry)) (now (room .entry))) ⌝ }
+{
+    super::size(room);
+    heads_valid(count, heads)
 }
 
 // How many bytes the records of a valid queue take. The promise is for every room.
@@ -124,7 +132,7 @@ pub fn drain(count: u8, heads: &Heads, room: &Room, out: &mut [u8]) -> Drained
     ensures { λ r. ⌜ drainOf r (now (heads .entry)) (now (room .entry)) (now (out .exit)) ≡ drained maxFrame (queueOf count (now (heads .entry)) (now (room .entry))) (now (out .entry)) ⌝ }
 {
     super::size(room);
-    if !frames_valid(count, heads) {
+    if !heads_valid(count, heads) {
         return Drained {
             result: 10,
             frames: 0,

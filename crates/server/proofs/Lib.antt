@@ -2,3 +2,4 @@ pub mod Levels
 pub mod Applied
 pub mod Kept
 pub mod Begun
+pub mod Drained

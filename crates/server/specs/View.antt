@@ -9,8 +9,8 @@ use lib.Dec.{leb, ltb}
 use Rattle.model.specs.Tests.{pick, changeFirst}
 use Rattle.model.specs.Numbers.{maxFrame}
 use Rattle.model.specs.State as Model
+use Rattle.model.specs.Drain as Drain
 use Rattle.model.specs.State.{Failed, Lock, Security, Session, cleared}
-use Rattle.model.specs.Reply as Definition
 use Rattle.model.specs.Reply.{replied}
 use Rattle.model.specs.Service as Rules
 use Rattle.model.specs.Service27.{isFailed, forget, seeded}
@@ -27,6 +27,8 @@ use Rattle.server.specs.declared.state.PendingRequest.{PendingRequest}
 use Rattle.server.specs.declared.state.State.{State}
 use Rattle.server.specs.declared.apply.Effect.{Effect}
 use Rattle.server.specs.declared.apply.Answer.{Answer}
+use Rattle.server.specs.declared.drain.Drained.{Drained}
+use Rattle.server.specs.declared.drain.ServerDrained.{ServerDrained}
 use Rattle.server.specs.declared.fresh.Server.{Server}
 use Rattle.server.specs.declared.fresh.Fresh.{Fresh}
 use Rattle.server.specs.declared.security.Entered.{Entered}
@@ -145,3 +147,10 @@ serverOf v = stateOf (v .config) (v .state) (v .subscriptions) (v .heads) (v .ro
 
 abbrev pub freshOf : Fresh → Model.Step
 freshOf r = record { result = r .result; state = serverOf (r .server) }
+
+-- what a drain leaves, and the buffer
+abbrev pub drainOf : List ℕ → Drained → List ℕ → List ℕ → List ℕ → List ℕ → Drain.Drained
+drainOf config d subs heads room buffer = record { step = record { result = d .result; state = stateOf config (d .state) subs heads room }; count = d .frames; buffer = buffer }
+
+abbrev pub drainedOf : ServerDrained → List ℕ → Drain.Drained
+drainedOf d buffer = record { step = record { result = d .result; state = serverOf (d .server) }; count = d .frames; buffer = buffer }

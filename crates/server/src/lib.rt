@@ -1,5 +1,6 @@
 // The server: what it holds, and its calls.
 pub mod apply;
+pub mod drain;
 pub mod fresh;
 pub mod security;
 pub mod state;

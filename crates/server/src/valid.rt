@@ -1,11 +1,7 @@
 // Whether a state, with what is lent beside it, keeps the numbers. Every call asks this first.
 ghost use mathlib.Core.Path.{_≡_};
-ghost use mathlib.Core.List.{List};
-ghost use Prim.Native.Nat.{ℕ};
-ghost use lib.ListN.{length};
 ghost use Rattle.model.specs.Numbers.{maxFrame};
 ghost use Rattle.model.specs.State as Model;
-ghost use Rattle.queue.specs.View.{roomSize};
 ghost use Rattle.server.specs.View.{pendingOf, stateOf};
 use super::security::MAX_MOMENT;
 use super::state::PendingRequest;
@@ -13,6 +9,7 @@ use super::state::State;
 use config::Config;
 use periodic::Subscriptions;
 use queue::Heads;
+use queue::Room;
 
 impl PendingRequest {
     // A pending request that is not there has no moment to test.
@@ -27,9 +24,15 @@ impl PendingRequest {
     }
 }
 
-// The room is not looked at: it need only be as long as it is.
-pub fn is_valid(config: &Config, s: State, subs: &Subscriptions, heads: &Heads) -> bool
-    ensures { λ r. ⌜ ((room : List ℕ) → length room ≡ roomSize → r ≡ Model.valid maxFrame (stateOf (now (config .entry)) s (now (subs .entry)) (now (heads .entry)) room)) ⌝ }
+// The state is valid: all that it holds, and all that is lent beside it.
+pub fn is_valid(
+    config: &Config,
+    s: State,
+    subs: &Subscriptions,
+    heads: &Heads,
+    room: &Room,
+) -> bool
+    ensures { λ r. ⌜ r ≡ Model.valid maxFrame (stateOf (now (config .entry)) s (now (subs .entry)) (now (heads .entry)) (now (room .entry))) ⌝ }
 {
     if !config::within(config) {
         return false;
@@ -50,5 +53,5 @@ pub fn is_valid(config: &Config, s: State, subs: &Subscriptions, heads: &Heads) 
     if !pending.is_valid() {
         return false;
     }
-    queue::drain::frames_valid(s.frames, heads)
+    queue::drain::frames_valid(s.frames, heads, room)
 }

@@ -21,11 +21,11 @@ within-requires c κs = search needs
 
 -- src/valid.rt:35:9
 returns : tie.Need-returns
-returns c = let a = c .before .before .args in let m = stateOf (now (a .config)) (a .s) (now (a .subs)) (now (a .heads)) in λ room z. no-config (m room) (sym (c .before .within .ensures) ∙ not-true _ (c .if1 .taken))
+returns c = let a = c .before .before .args in let m = stateOf (now (a .config)) (a .s) (now (a .subs)) (now (a .heads)) (now (a .room)) in no-config m (sym (c .before .within .ensures) ∙ not-true _ (c .if1 .taken))
 
 -- src/valid.rt:40:9
 returns-2 : tie.Need-returns-2
-returns-2 c = let a = c .before .before .before .before .before .before .args in let m = stateOf (now (a .config)) (a .s) (now (a .subs)) (now (a .heads)) in λ room z. no-moment (m room) (sym (c .before .before .before .before .before .within .ensures) ∙ not-false _ (c .before .before .before .before .if1 .left)) (lt-leb _ _ (c .if2 .taken))
+returns-2 c = let a = c .before .before .before .before .before .before .args in let m = stateOf (now (a .config)) (a .s) (now (a .subs)) (now (a .heads)) (now (a .room)) in no-moment m (sym (c .before .before .before .before .before .within .ensures) ∙ not-false _ (c .before .before .before .before .if1 .left)) (lt-leb _ _ (c .if2 .taken))
 
 -- src/valid.rt:43:9
 is-valid-requires : tie.Need-is-valid-requires
@@ -33,7 +33,7 @@ is-valid-requires c κs = search needs
 
 -- src/valid.rt:44:9
 returns-3 : tie.Need-returns-3
-returns-3 c = let a = c .before .before .before .before .before .before .before .before .before .args in let m = stateOf (now (a .config)) (a .s) (now (a .subs)) (now (a .heads)) in λ room z. no-security (m room) (sym (c .before .before .before .before .before .before .before .before .within .ensures) ∙ not-false _ (c .before .before .before .before .before .before .before .if1 .left)) (le-leb _ _ (c .before .before .before .if2 .left)) (sym (c .before .is-valid .ensures) ∙ not-true _ (c .if3 .taken))
+returns-3 c = let a = c .before .before .before .before .before .before .before .before .before .args in let m = stateOf (now (a .config)) (a .s) (now (a .subs)) (now (a .heads)) (now (a .room)) in no-security m (sym (c .before .before .before .before .before .before .before .before .within .ensures) ∙ not-false _ (c .before .before .before .before .before .before .before .if1 .left)) (le-leb _ _ (c .before .before .before .if2 .left)) (sym (c .before .is-valid .ensures) ∙ not-true _ (c .if3 .taken))
 
 -- src/valid.rt:46:9
 subscriptions-valid-requires : tie.Need-subscriptions-valid-requires
@@ -41,7 +41,7 @@ subscriptions-valid-requires c κs = search needs
 
 -- src/valid.rt:47:9
 returns-4 : tie.Need-returns-4
-returns-4 c = let a = c .before .before .before .before .before .before .before .before .before .before .before .args in let m = stateOf (now (a .config)) (a .s) (now (a .subs)) (now (a .heads)) in λ room z. no-periodic (m room) (sym (c .before .before .before .before .before .before .before .before .before .before .within .ensures) ∙ not-false _ (c .before .before .before .before .before .before .before .before .before .if1 .left)) (le-leb _ _ (c .before .before .before .before .before .if2 .left)) (sym (c .before .before .before .is-valid .ensures) ∙ not-false _ (c .before .before .if3 .left)) (sym (c .before .subscriptions-valid .ensures) ∙ not-true _ (c .if4 .taken))
+returns-4 c = let a = c .before .before .before .before .before .before .before .before .before .before .before .args in let m = stateOf (now (a .config)) (a .s) (now (a .subs)) (now (a .heads)) (now (a .room)) in no-periodic m (sym (c .before .before .before .before .before .before .before .before .before .before .within .ensures) ∙ not-false _ (c .before .before .before .before .before .before .before .before .before .if1 .left)) (le-leb _ _ (c .before .before .before .before .before .if2 .left)) (sym (c .before .before .before .is-valid .ensures) ∙ not-false _ (c .before .before .if3 .left)) (sym (c .before .subscriptions-valid .ensures) ∙ not-true _ (c .if4 .taken))
 
 -- src/valid.rt:50:9
 is-valid-requires-2 : tie.Need-is-valid-requires-2
@@ -49,7 +49,7 @@ is-valid-requires-2 c κs = search needs
 
 -- src/valid.rt:51:9
 returns-5 : tie.Need-returns-5
-returns-5 c = let a = c .before .before .before .before .before .before .before .before .before .before .before .before .before .before .args in let m = stateOf (now (a .config)) (a .s) (now (a .subs)) (now (a .heads)) in λ room z. no-pending (m room) (sym (c .before .before .before .before .before .before .before .before .before .before .before .before .before .within .ensures) ∙ not-false _ (c .before .before .before .before .before .before .before .before .before .before .before .before .if1 .left)) (le-leb _ _ (c .before .before .before .before .before .before .before .before .if2 .left)) (sym (c .before .before .before .before .before .before .is-valid .ensures) ∙ not-false _ (c .before .before .before .before .before .if3 .left)) (sym (c .before .before .before .before .subscriptions-valid .ensures) ∙ not-false _ (c .before .before .before .if4 .left)) (sym (c .before .is-valid2 .ensures) ∙ not-true _ (c .if5 .taken))
+returns-5 c = let a = c .before .before .before .before .before .before .before .before .before .before .before .before .before .before .args in let m = stateOf (now (a .config)) (a .s) (now (a .subs)) (now (a .heads)) (now (a .room)) in no-pending m (sym (c .before .before .before .before .before .before .before .before .before .before .before .before .before .within .ensures) ∙ not-false _ (c .before .before .before .before .before .before .before .before .before .before .before .before .if1 .left)) (le-leb _ _ (c .before .before .before .before .before .before .before .before .if2 .left)) (sym (c .before .before .before .before .before .before .is-valid .ensures) ∙ not-false _ (c .before .before .before .before .before .if3 .left)) (sym (c .before .before .before .before .subscriptions-valid .ensures) ∙ not-false _ (c .before .before .before .if4 .left)) (sym (c .before .is-valid2 .ensures) ∙ not-true _ (c .if5 .taken))
 
 -- src/valid.rt:53:5
 frames-valid-requires : tie.Need-frames-valid-requires
@@ -57,7 +57,7 @@ frames-valid-requires c κs = search needs
 
 -- src/valid.rt:31:1
 returns-6 : tie.Need-returns-6
-returns-6 c = let a = c .before .before .before .before .before .before .before .before .before .before .before .before .before .before .before .args in let m = stateOf (now (a .config)) (a .s) (now (a .subs)) (now (a .heads)) in λ room z. c .frames-valid .ensures room z ∙ as-queue (m room) (sym (c .before .before .before .before .before .before .before .before .before .before .before .before .before .before .within .ensures) ∙ not-false _ (c .before .before .before .before .before .before .before .before .before .before .before .before .before .if1 .left)) (le-leb _ _ (c .before .before .before .before .before .before .before .before .before .if2 .left)) (sym (c .before .before .before .before .before .before .before .is-valid .ensures) ∙ not-false _ (c .before .before .before .before .before .before .if3 .left)) (sym (c .before .before .before .before .before .subscriptions-valid .ensures) ∙ not-false _ (c .before .before .before .before .if4 .left)) (sym (c .before .before .is-valid2 .ensures) ∙ not-false _ (c .before .if5 .left))
+returns-6 c = let a = c .before .before .before .before .before .before .before .before .before .before .before .before .before .before .before .args in let m = stateOf (now (a .config)) (a .s) (now (a .subs)) (now (a .heads)) (now (a .room)) in c .frames-valid .ensures ∙ as-queue m (sym (c .before .before .before .before .before .before .before .before .before .before .before .before .before .before .within .ensures) ∙ not-false _ (c .before .before .before .before .before .before .before .before .before .before .before .before .before .if1 .left)) (le-leb _ _ (c .before .before .before .before .before .before .before .before .before .if2 .left)) (sym (c .before .before .before .before .before .before .before .is-valid .ensures) ∙ not-false _ (c .before .before .before .before .before .before .if3 .left)) (sym (c .before .before .before .before .before .subscriptions-valid .ensures) ∙ not-false _ (c .before .before .before .before .if4 .left)) (sym (c .before .before .is-valid2 .ensures) ∙ not-false _ (c .before .if5 .left))
 
 pub is-valid-spec : {M : Type 1} → statement M
 is-valid-spec =

@@ -1,0 +1,77 @@
+// Drain: the waiting frames as records in a lent buffer, of a state that is lent and of a server by value.
+ghost use mathlib.Core.Path.{_≡_};
+ghost use Rattle.model.specs.Numbers.{maxFrame};
+ghost use Rattle.model.specs.Drain as Model;
+ghost use Rattle.server.specs.View.{stateOf, serverOf, drainOf, drainedOf};
+use super::fresh::Server;
+use super::state::State;
+use config::Config;
+use periodic::Subscriptions;
+use queue::Heads;
+use queue::Room;
+
+// The state that is left, the result, and how many frames were written.
+#[repr(C)]
+pub struct Drained {
+    pub state: State,
+    pub result: u8,
+    pub frames: u8,
+}
+
+#[repr(C)]
+pub struct ServerDrained {
+    pub server: Server,
+    pub result: u8,
+    pub frames: u8,
+}
+
+// 10 where the state is not valid, then 5 where the records exceed the buffer: both leave all as it was.
+pub fn drain<'a>(
+    config: &'a Config,
+    s: State,
+    subs: &'a Subscriptions,
+    heads: &'a Heads,
+    room: &'a Room,
+    out: &mut [u8],
+) -> Drained
+    ensures { λ r. ⌜ drainOf (now (config .entry)) r (now (subs .entry)) (now (heads .entry)) (now (room .entry)) (now (out .exit)) ≡ Model.drain maxFrame (stateOf (now (config .entry)) s (now (subs .entry)) (now (heads .entry)) (now (room .entry))) (now (out .entry)) ⌝ }
+{
+    if !super::valid::is_valid(config, s, subs, heads, room) {
+        return Drained {
+            state: s,
+            result: 10,
+            frames: 0,
+        };
+    }
+    let d = queue::drain::drain(s.frames, heads, room, out);
+    let mut next = s;
+    next.frames = d.count;
+    Drained {
+        state: next,
+        result: d.result,
+        frames: d.frames,
+    }
+}
+
+impl Server {
+    pub fn drain(self, out: &mut [u8]) -> ServerDrained
+        ensures { λ r. ⌜ drainedOf r (now (out .exit)) ≡ Model.drain maxFrame (serverOf self) (now (out .entry)) ⌝ }
+    {
+        let d = drain(
+            &self.config,
+            self.state,
+            &self.subscriptions,
+            &self.heads,
+            &self.room,
+            out,
+        );
+        let state = d.state;
+        let mut server = self;
+        server.state = state;
+        ServerDrained {
+            server,
+            result: d.result,
+            frames: d.frames,
+        }
+    }
+}
