@@ -21,7 +21,7 @@ use Rattle.uds.specs.Clock.{later}
 use Rattle.uds.proofs.Tab.{tab-same, tab-length}
 use Rattle.periodic.specs.declared.Registered.the-variants.{Stands, Full}
 use Rattle.periodic.specs.View.{entryAt, tableOf, starts, advancedAt, Puts, Registers, Cancels, Advances}
-use Rattle.periodic.proofs.Tables.{passing, enter-known, enter-new, enter-full}
+use Rattle.uds.proofs.Tables.{passing, enter-known, enter-new, enter-full}
 
 -- where a found entry stands
 module _ (w : List ℕ) (count x client : ℕ) (found : Found) (is : placeOf found ≡ place (isSubscription x client) (tableOf count w)) where

@@ -1,4 +1,3 @@
-pub mod Tables
 pub mod Without
 pub mod Words
 pub mod Laws

@@ -9,7 +9,6 @@ use borrow.Author.Tests.{ne-eqb}
 use Rattle.model.specs.Numbers.{maxFrame, maxTime, maxSpan}
 use Rattle.model.specs.Config.{findSession, p2ExtOf, within}
 use Rattle.model.specs.State as Model
-use Rattle.model.specs.Reply as Definition
 use Rattle.model.specs.Reply.{replied}
 use Rattle.model.specs.Service as Rules
 use Rattle.model.proofs.Valid.Parts.{p2Ext-below}

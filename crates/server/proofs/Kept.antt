@@ -1,7 +1,6 @@
 -- The six parts of a valid state, and the first of them that fails.
-use Prim.Native.Nat.{ℕ}
-use mathlib.Core.Path.{_≡_, refl, sym, _∙_}
-use mathlib.Core.Bool.{Bool, true, false}
+use mathlib.Core.Path.{_≡_}
+use mathlib.Core.Bool.{true, false}
 use Rattle.model.specs.Numbers.{maxFrame, maxOutbox, maxPeriodic}
 use Rattle.model.specs.Config.{within, tableWithin}
 use Rattle.model.specs.State.{State, momentValid, securityValid, subscriptionValid, pendingValid, frameValid, valid}

@@ -1,16 +1,16 @@
 -- What a search among levels tells of the counts and the locks.
-use Prim.Native.Nat.{ℕ, suc, _+_, _≤_, _<_, min}
+use Prim.Native.Nat.{ℕ, _+_, _≤_, _<_, min}
 use mathlib.Core.Path.{_≡_, refl, ap, ap₂, sym, _∙_}
-use mathlib.Core.Bool.{Bool, true, false}
+use mathlib.Core.Bool.{Bool, true, false, false≢true}
 use mathlib.Core.List.{List, [], _∷_, _++_}
-use mathlib.Core.Option.{Option, some, none, Option·map, Option·some-ne-none}
+use mathlib.Core.Option.{some, none, Option·map}
 use native.Mathlib.Omega.{arith}
 use native.Mathlib.Numerals.{add-one}
 use lib.ListN.{length, take, set}
 use lib.Seq.{getD-set-same, getD-set-other, take-suc}
 use lib.Dec.{ltb}
 use borrow.Author.Tests.{lt-ltb, le-ltb, le-leb, lt-leb}
-use Rattle.model.specs.Tests.{pick, all, place, changeFirst, enter}
+use Rattle.model.specs.Tests.{all, place, enter}
 use Rattle.model.specs.Numbers.{maxLevels}
 use Rattle.model.specs.State.{Failed, Lock, Security, cleared, momentValid, lockValid, securityValid}
 use Rattle.model.specs.Service27.{isFailed, isLock, holds, countOf, locked, failedCount, raise, forget, relock, incrementFailed, setLockout}
@@ -19,9 +19,9 @@ use Rattle.uds.specs.Table.{tab, isKey, placeOf, rowOf, Finds}
 use Rattle.uds.specs.declared.table.Found.{Found}
 use Rattle.uds.specs.declared.table.Found.the-variants.{At, Nothing}
 use Rattle.uds.proofs.Tab.{finds, tab-length, tab-same, tab-snoc, all-same}
-use Rattle.server.specs.View.{entry, failedAt, lockAt, securityOf, withFailed, withLocks, Counts, Enters, FirstFailed, FirstLock, Resets, Seeds}
+use Rattle.uds.proofs.Tables.{any-none, change-none, change-at, enter-known}
+use Rattle.server.specs.View.{entry, failedAt, lockAt, securityOf, withFailed, withLocks, Counts, Enters, Resets, Seeds, added}
 use Rattle.server.specs.declared.security.Entered.{Entered}
-use Rattle.periodic.proofs.Tables.{any-none, change-at, enter-known}
 use Rattle.server.specs.declared.security.SecurityState.{SecurityState}
 
 -- where an entry was found there is one
@@ -57,17 +57,6 @@ module _ (k : SecurityState) (level : ℕ) (r : Found) where
     pub failed-below : (i : ℕ) → r ≡ At i → i < k .failed
     failed-below i h = found-below (isKey level) (entry (k .«failed_levels»)) (k .failed) i (sym e ∙ ap placeOf h)
 
-module _ {B : Type 0} (p : B → Bool) where
-  -- a row that is not known is not changed
-  pub change-none : (change : B → B) (l : List B) → place p l ≡ none → changeFirst p change l ≡ l
-  change-none change [] e = refl
-  change-none change (a ∷ l) e = go (p a) (place p l) e (change-none change l)
-    where
-      go : (b : Bool) (o : Option ℕ) → pick b (some 0) (Option·map suc o) ≡ none → (o ≡ none → changeFirst p change l ≡ l) → pick b (change a ∷ l) (a ∷ changeFirst p change l) ≡ a ∷ l
-      go true o z ih = absurd (Option·some-ne-none 0 z)
-      go false none z ih = ap (a ∷_) (ih refl)
-      go false (some j) z ih = absurd (Option·some-ne-none (suc j) z)
-
 -- an array with one entry set
 pub entry-same : (l : List ℕ) (i x : ℕ) → i < length l → entry (set l i x) i ≡ x
 entry-same l i x h = getD-set-same l i x 0 h
@@ -95,6 +84,12 @@ module _ {B : Type 0} (pair : ℕ → ℕ → B) (levels values : List ℕ) wher
   pub pair-kept : (i j x : ℕ) → (j ≡ i → ⊥) → pairs pair levels (set values i x) j ≡ pairs pair levels values j
   pair-kept i j x h = ap (pair (entry levels j)) (entry-other values i j x h)
 
+-- an entry of a level that has none
+pub entered-new : {A : Type 0} (k : SecurityState) (with : List A → Security) (p : A → Bool) (change : A → A) (new : A) (l : List A) (a : Entered) → place p l ≡ none
+    → Enters k (Option·map with (added new l)) a → Enters k (Option·map with (enter maxLevels p change new l)) a
+unfolding enter
+entered-new k with p change new l a e f = record { answer = f .answer ∙ rw (any-none p l e); counts = f .counts; full = f .full }
+
 abbrev pub failedPair : ℕ → ℕ → Failed
 failedPair level count = record { level = level; count = count }
 
@@ -104,33 +99,25 @@ lockPair level until = record { level = level; until = until }
 module _ (k : SecurityState) (level : ℕ) (c : Counts k) where
   -- the first refused key, where there is room
   pub failed-more : length (k .«failed_levels») ≡ 8 → length (k .«failed_counts») ≡ 8 → k .failed < 8
-      → FirstFailed k level (record { security = record { untils = k .untils; seed = k .seed; «failed_levels» = set (k .«failed_levels») (k .failed) level; «failed_counts» = set (k .«failed_counts») (k .failed) 1; «lock_levels» = k .«lock_levels»; «seed_len» = k .«seed_len»; «seed_level» = k .«seed_level»; failed = k .failed + 1; locks = k .locks }; room = true })
+      → Enters k (Option·map (withFailed (securityOf k)) (added (failedPair level 1) (securityOf k .failed))) (record { security = record { untils = k .untils; seed = k .seed; «failed_levels» = set (k .«failed_levels») (k .failed) level; «failed_counts» = set (k .«failed_counts») (k .failed) 1; «lock_levels» = k .«lock_levels»; «seed_len» = k .«seed_len»; «seed_level» = k .«seed_level»; failed = k .failed + 1; locks = k .locks }; room = true })
   failed-more a b h = record {
-    answer = rw (lt-ltb (k .failed) 8 h) (ap (λ (f : List Failed). some (withFailed (securityOf k) f)) (pairs-more failedPair (k .«failed_levels») (k .«failed_counts») (k .failed) level 1 (omega arith) (omega arith)));
+    answer = rw (tab-length (failedAt k) 0 (k .failed), lt-ltb (k .failed) 8 h) (ap (λ (f : List Failed). some (withFailed (securityOf k) f)) (pairs-more failedPair (k .«failed_levels») (k .«failed_counts») (k .failed) level 1 (omega arith) (omega arith)));
     counts = record { failed = omega arith; locks = c .locks };
+    full = λ e. absurd (false≢true (sym e));
   }
 
   -- and where there is none
-  pub failed-full : 8 ≤ k .failed → FirstFailed k level (record { security = k; room = false })
-  failed-full h = record { answer = rw (le-ltb (k .failed) 8 h); counts = c }
+  pub failed-full : 8 ≤ k .failed → Enters k (Option·map (withFailed (securityOf k)) (added (failedPair level 1) (securityOf k .failed))) (record { security = k; room = false })
+  failed-full h = record { answer = rw (tab-length (failedAt k) 0 (k .failed), le-ltb (k .failed) 8 h); counts = c; full = λ e. refl }
 
   module _ (r : Found) (e : placeOf r ≡ place (isKey level) (tab (entry (k .«failed_levels»)) 0 (k .failed))) where
     -- a refused key of a level that has no count
-    pub failed-new : (a : Entered) → r ≡ Nothing → FirstFailed k level a → Enters (Option·map (withFailed (securityOf k)) (incrementFailed level (securityOf k .failed))) a
-    unfolding enter
-    failed-new a h f =
-        let n = any-none (isFailed level) (tab (failedAt k) 0 (k .failed)) (sym (failed-found k level r e .where-it-stands) ∙ ap placeOf h) in
-        record { answer = f .answer ∙ rw (n, tab-length (failedAt k) 0 (k .failed)) (go (ltb (k .failed) 8)); counts = f .counts }
-      where
-        go : (b : Bool)
-            → pick b (some (withFailed (securityOf k) (securityOf k .failed ++ (failedPair level 1 ∷ [])))) none
-            ≡ Option·map (withFailed (securityOf k)) (pick b (some (securityOf k .failed ++ (failedPair level 1 ∷ []))) none)
-        go true = refl
-        go false = refl
+    pub failed-new : (a : Entered) → r ≡ Nothing → Enters k (Option·map (withFailed (securityOf k)) (added (failedPair level 1) (securityOf k .failed))) a → Enters k (Option·map (withFailed (securityOf k)) (incrementFailed level (securityOf k .failed))) a
+    failed-new a h f = entered-new k (withFailed (securityOf k)) (isFailed level) raise (failedPair level 1) (securityOf k .failed) a (sym (failed-found k level r e .where-it-stands) ∙ ap placeOf h) f
 
     -- and of one that has
     pub failed-again : (i x : ℕ) → r ≡ At i → x ≡ min (entry (k .«failed_counts») i + 1) 255 → length (k .«failed_counts») ≡ 8
-        → Enters (Option·map (withFailed (securityOf k)) (incrementFailed level (securityOf k .failed)))
+        → Enters k (Option·map (withFailed (securityOf k)) (incrementFailed level (securityOf k .failed)))
         (record { security = record { untils = k .untils; seed = k .seed; «failed_levels» = k .«failed_levels»; «failed_counts» = set (k .«failed_counts») i x; «lock_levels» = k .«lock_levels»; «seed_len» = k .«seed_len»; «seed_level» = k .«seed_level»; failed = k .failed; locks = k .locks }; room = true })
     failed-again i x h w z =
         let b = failed-below k level r e i h in
@@ -141,6 +128,7 @@ module _ (k : SecurityState) (level : ℕ) (c : Counts k) where
               (ap (failedPair (entry (k .«failed_levels») i)) (entry-same (k .«failed_counts») i x (omega (arith, c .failed)) ∙ w))
               (λ j q n. pair-kept failedPair (k .«failed_levels») (k .«failed_counts») i j x n)));
           counts = record { failed = c .failed; locks = c .locks };
+          full = λ q. absurd (false≢true (sym q));
         }
 
     -- a count set to 0
@@ -164,30 +152,22 @@ module _ (k : SecurityState) (level : ℕ) (c : Counts k) where
 -- locks, in the same way
 module _ (k : SecurityState) (level until : ℕ) (c : Counts k) where
   pub lock-more : length (k .«lock_levels») ≡ 8 → length (k .untils) ≡ 8 → k .locks < 8
-      → FirstLock k level until (record { security = record { untils = set (k .untils) (k .locks) until; seed = k .seed; «failed_levels» = k .«failed_levels»; «failed_counts» = k .«failed_counts»; «lock_levels» = set (k .«lock_levels») (k .locks) level; «seed_len» = k .«seed_len»; «seed_level» = k .«seed_level»; failed = k .failed; locks = k .locks + 1 }; room = true })
+      → Enters k (Option·map (withLocks (securityOf k)) (added (lockPair level until) (securityOf k .locks))) (record { security = record { untils = set (k .untils) (k .locks) until; seed = k .seed; «failed_levels» = k .«failed_levels»; «failed_counts» = k .«failed_counts»; «lock_levels» = set (k .«lock_levels») (k .locks) level; «seed_len» = k .«seed_len»; «seed_level» = k .«seed_level»; failed = k .failed; locks = k .locks + 1 }; room = true })
   lock-more a b h = record {
-    answer = rw (lt-ltb (k .locks) 8 h) (ap (λ (l : List Lock). some (withLocks (securityOf k) l)) (pairs-more lockPair (k .«lock_levels») (k .untils) (k .locks) level until (omega arith) (omega arith)));
+    answer = rw (tab-length (lockAt k) 0 (k .locks), lt-ltb (k .locks) 8 h) (ap (λ (l : List Lock). some (withLocks (securityOf k) l)) (pairs-more lockPair (k .«lock_levels») (k .untils) (k .locks) level until (omega arith) (omega arith)));
     counts = record { failed = c .failed; locks = omega arith };
+    full = λ e. absurd (false≢true (sym e));
   }
 
-  pub lock-full : 8 ≤ k .locks → FirstLock k level until (record { security = k; room = false })
-  lock-full h = record { answer = rw (le-ltb (k .locks) 8 h); counts = c }
+  pub lock-full : 8 ≤ k .locks → Enters k (Option·map (withLocks (securityOf k)) (added (lockPair level until) (securityOf k .locks))) (record { security = k; room = false })
+  lock-full h = record { answer = rw (tab-length (lockAt k) 0 (k .locks), le-ltb (k .locks) 8 h); counts = c; full = λ e. refl }
 
   module _ (r : Found) (e : placeOf r ≡ place (isKey level) (tab (entry (k .«lock_levels»)) 0 (k .locks))) where
-    pub lock-new : (a : Entered) → r ≡ Nothing → FirstLock k level until a → Enters (Option·map (withLocks (securityOf k)) (setLockout level until (securityOf k .locks))) a
-    unfolding enter
-    lock-new a h f =
-        let n = any-none (isLock level) (tab (lockAt k) 0 (k .locks)) (sym (lock-found k level r e .where-it-stands) ∙ ap placeOf h) in
-        record { answer = f .answer ∙ rw (n, tab-length (lockAt k) 0 (k .locks)) (go (ltb (k .locks) 8)); counts = f .counts }
-      where
-        go : (b : Bool)
-            → pick b (some (withLocks (securityOf k) (securityOf k .locks ++ (lockPair level until ∷ [])))) none
-            ≡ Option·map (withLocks (securityOf k)) (pick b (some (securityOf k .locks ++ (lockPair level until ∷ []))) none)
-        go true = refl
-        go false = refl
+    pub lock-new : (a : Entered) → r ≡ Nothing → Enters k (Option·map (withLocks (securityOf k)) (added (lockPair level until) (securityOf k .locks))) a → Enters k (Option·map (withLocks (securityOf k)) (setLockout level until (securityOf k .locks))) a
+    lock-new a h f = entered-new k (withLocks (securityOf k)) (isLock level) (relock until) (lockPair level until) (securityOf k .locks) a (sym (lock-found k level r e .where-it-stands) ∙ ap placeOf h) f
 
     pub lock-again : (i : ℕ) → r ≡ At i → length (k .untils) ≡ 8
-        → Enters (Option·map (withLocks (securityOf k)) (setLockout level until (securityOf k .locks)))
+        → Enters k (Option·map (withLocks (securityOf k)) (setLockout level until (securityOf k .locks)))
         (record { security = record { untils = set (k .untils) i until; seed = k .seed; «failed_levels» = k .«failed_levels»; «failed_counts» = k .«failed_counts»; «lock_levels» = k .«lock_levels»; «seed_len» = k .«seed_len»; «seed_level» = k .«seed_level»; failed = k .failed; locks = k .locks }; room = true })
     lock-again i h z =
         let b = lock-below k level r e i h in
@@ -198,6 +178,7 @@ module _ (k : SecurityState) (level until : ℕ) (c : Counts k) where
               (ap (lockPair (entry (k .«lock_levels») i)) (entry-same (k .untils) i until (omega (arith, c .locks))))
               (λ j q n. pair-kept lockPair (k .«lock_levels») (k .untils) i j until n)));
           counts = record { failed = c .failed; locks = c .locks };
+          full = λ q. absurd (false≢true (sym q));
         }
 
 -- a seed copied byte by byte

@@ -7,7 +7,7 @@ use mathlib.Core.Option.{Option, some, none}
 use lib.ListN.{length, getD}
 use lib.Dec.{leb, ltb}
 use Rattle.model.specs.Tests.{pick, changeFirst}
-use Rattle.model.specs.Numbers.{maxFrame}
+use Rattle.model.specs.Numbers.{maxFrame, maxLevels}
 use Rattle.model.specs.State as Model
 use Rattle.model.specs.Drain as Drain
 use Rattle.model.specs.State.{Failed, Lock, Security, Session, cleared}
@@ -69,19 +69,15 @@ withLocks k l = record { seed = k .seed; seedLevel = k .seedLevel; failed = k .f
 abbrev pub enteredOf : Entered → Option Security
 enteredOf r = pick (r .room) (some (securityOf (r .security))) none
 
-pub record Enters (o : Option Security) (r : Entered) : Type 0 where
+-- one more at the end of a list of levels, if it has room
+abbrev pub added : {A : Type 0} → A → List A → Option (List A)
+added x l = pick (ltb (length l) maxLevels) (some (l ++ (x ∷ []))) none
+
+-- and where there was none, the state as it was
+pub record Enters (k : SecurityState) (o : Option Security) (r : Entered) : Type 0 where
   pub answer : enteredOf r ≡ o
   pub counts : Counts (r .security)
-
--- the first refused key of a level: added at the end, or no room
-pub record FirstFailed (k : SecurityState) (level : ℕ) (r : Entered) : Type 0 where
-  pub answer : enteredOf r ≡ pick (ltb (k .failed) 8) (some (withFailed (securityOf k) (securityOf k .failed ++ (record { level = level; count = 1 } ∷ [])))) none
-  pub counts : Counts (r .security)
-
--- the first lock of a level: added at the end, or no room
-pub record FirstLock (k : SecurityState) (level until : ℕ) (r : Entered) : Type 0 where
-  pub answer : enteredOf r ≡ pick (ltb (k .locks) 8) (some (withLocks (securityOf k) (securityOf k .locks ++ (record { level = level; until = until } ∷ [])))) none
-  pub counts : Counts (r .security)
+  pub full : r .room ≡ false → r .security ≡ k
 
 -- the count of a level set to 0, if it has one
 pub record Resets (k : SecurityState) (level : ℕ) (r : SecurityState) : Type 0 where

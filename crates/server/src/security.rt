@@ -7,7 +7,7 @@ ghost use Rattle.model.specs.Tests.{place, all};
 ghost use Rattle.model.specs.State as Model;
 ghost use Rattle.model.specs.Service27 as Rules;
 ghost use Rattle.uds.specs.Table.{tab, isKey, placeOf};
-ghost use Rattle.server.specs.View.{entry, securityOf, withFailed, withLocks, Counts, Seeds, Enters, FirstFailed, FirstLock, Resets};
+ghost use Rattle.server.specs.View.{entry, securityOf, withFailed, withLocks, added, Counts, Seeds, Enters, Resets};
 use uds::clock::Instant;
 use uds::table::Found;
 
@@ -39,10 +39,10 @@ pub struct Entered {
 fn raised(count: u8) -> u8
     ensures { λ r. ⌜ r ≡ min (count + 1) 255 ⌝ }
 {
-    if count < 255 {
-        return count + 1;
+    if 255 <= count {
+        return 255;
     }
-    count
+    count + 1
 }
 
 // Where a level stands among the first `n`.
@@ -166,7 +166,7 @@ impl SecurityState {
     // One more refused key of the level, if the list has room.
     pub(crate) fn increment_failed(self, level: u8) -> Entered
         requires { ⌜ Counts self ⌝ }
-        ensures { λ r. ⌜ Enters (Option·map (withFailed (securityOf self)) (Rules.incrementFailed level (securityOf self .failed))) r ⌝ }
+        ensures { λ r. ⌜ Enters self (Option·map (withFailed (securityOf self)) (Rules.incrementFailed level (securityOf self .failed))) r ⌝ }
     {
         let levels = self.failed_levels;
         let Found::At(i) = find_level(&levels, self.failed, level) else {
@@ -184,7 +184,7 @@ impl SecurityState {
     // The first refused key of a level.
     fn first_failed(self, level: u8) -> Entered
         requires { ⌜ Counts self ⌝ }
-        ensures { λ r. ⌜ FirstFailed self level r ⌝ }
+        ensures { λ r. ⌜ Enters self (Option·map (withFailed (securityOf self)) (added (record { level = level; count = 1 }) (securityOf self .failed))) r ⌝ }
     {
         let n = self.failed;
         if 8 <= n {
@@ -221,7 +221,7 @@ impl SecurityState {
     // Locked until a moment, if the list has room.
     pub(crate) fn set_lockout(self, level: u8, until: Instant) -> Entered
         requires { ⌜ Counts self ⌝ }
-        ensures { λ r. ⌜ Enters (Option·map (withLocks (securityOf self)) (Rules.setLockout level (until .0) (securityOf self .locks))) r ⌝ }
+        ensures { λ r. ⌜ Enters self (Option·map (withLocks (securityOf self)) (Rules.setLockout level (until .0) (securityOf self .locks))) r ⌝ }
     {
         let levels = self.lock_levels;
         let Found::At(i) = find_level(&levels, self.locks, level) else {
@@ -238,7 +238,7 @@ impl SecurityState {
     // The first lock of a level.
     fn first_lock(self, level: u8, until: Instant) -> Entered
         requires { ⌜ Counts self ⌝ }
-        ensures { λ r. ⌜ FirstLock self level (until .0) r ⌝ }
+        ensures { λ r. ⌜ Enters self (Option·map (withLocks (securityOf self)) (added (record { level = level; until = until .0 }) (securityOf self .locks))) r ⌝ }
     {
         let n = self.locks;
         if 8 <= n {

@@ -1,5 +1,6 @@
 pub mod Bits
 pub mod Lists
 pub mod Tab
+pub mod Tables
 pub mod Readings
 pub mod Paste

@@ -1,10 +1,10 @@
 -- What stands where after words were written from a place on: the new ones there, and the old ones elsewhere.
 use Prim.Native.Nat.{ℕ, zero, suc, _+_, _-_, _≤_, _<_}
 use mathlib.Core.Path.{_≡_, refl, sym, ap, _∙_}
-use mathlib.Core.List.{List, [], _∷_, _++_}
+use mathlib.Core.List.{List, _++_}
 use native.Mathlib.Omega.{arith}
 use native.Mathlib.Numerals.{add-one}
-use lib.ListN.{length, getD, set, take, drop, length-take, length-append, drop-of-length-le, List·getD-append}
+use lib.ListN.{length, getD, set, take, drop, drop-of-length-le, List·getD-append}
 use lib.Seq.{paste, paste-suc, length-paste-head, length-take-le, getD-append-add, getD-take, getD-drop, drop-cons}
 use Rattle.uds.specs.Table.{tab}
 

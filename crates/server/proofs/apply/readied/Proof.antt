@@ -1,5 +1,4 @@
 use mathlib.Core.Path.{sym, ap, _∙_}
-use native.Mathlib.Omega.{arith}
 use denote.Ref.{now}
 use borrow.Author.Tests.{not-true, not-false}
 use Rattle.model.specs.Config.{p2ExtOf}
@@ -8,34 +7,22 @@ use Rattle.server.proofs.Applied.{not-pending, pending-set}
 use borrow.Author.Needs.{needs}
 use Rattle.server.proofs.apply.readied.Statement.{statement}
 use Rattle.server.proofs.apply.readied.Tie as tie
-use Rattle.server.proofs.apply.readied.Reads as reads
-use Rattle.server.proofs.apply.readied.Lts as lts
-use Rattle.server.proofs.apply.pends.Reads as pends-reads
-use Rattle.uds.proofs.clock.Instant.plus.Reads as plus-reads
-use Rattle.config.proofs.find_session.Reads as find-session-reads
-use Rattle.config.proofs.p2_ext.Reads as p2-ext-reads
 
--- src/apply.rt:70:9
 pends-requires : tie.Need-pends-requires
 pends-requires c κs = search needs
 
--- src/apply.rt:71:9
 returns : tie.Need-returns
 returns c = let a = c .before .before .args in record { state = λ subs heads room count. not-pending (stateOf (now (a .config)) (a .s) subs heads room) (a .to) (a .sid) (a .t .0) count room (a .reply) (sym (c .before .pends .ensures) ∙ not-true _ (c .if1 .taken)) }
 
--- src/apply.rt:74:9
 find-session-requires : tie.Need-find-session-requires
 find-session-requires c κs = search needs
 
--- src/apply.rt:75:27
 p2-ext-requires : tie.Need-p2-ext-requires
 p2-ext-requires c κs = search needs
 
--- src/apply.rt:75:9
 plus-requires : tie.Need-plus-requires
 plus-requires c κs = search needs
 
--- src/apply.rt:66:1
 returns-2 : tie.Need-returns-2
 returns-2 c = let a = c .before .before .before .before .before .before .args in pending-set (now (a .config)) (a .s) (a .to) (a .sid) (a .t .0) (a .reply) (c .plus .result .0) (c .before .p2-ext .result .0) (sym (c .before .before .before .before .before .pends .ensures) ∙ not-false _ (c .before .before .before .before .if1 .left)) (c .plus .ensures) (c .before .p2-ext .ensures ∙ ap p2ExtOf (c .before .before .find-session .ensures .row)) (c .before .before .before .before .before .before .pre .0) (c .before .before .before .before .before .before .pre .1)
 

@@ -1,24 +1,15 @@
-use mathlib.Core.Path.{sym, ap, _∙_}
-use native.Mathlib.Omega.{arith}
 use denote.Ref.{now}
 use Rattle.server.proofs.Applied.{reply-taken}
 use borrow.Author.Needs.{needs}
 use Rattle.server.proofs.apply.replied.Statement.{statement}
 use Rattle.server.proofs.apply.replied.Tie as tie
-use Rattle.server.proofs.apply.replied.Reads as reads
-use Rattle.server.proofs.apply.replied.Lts as lts
-use Rattle.queue.proofs.reply.answer.Reads as answer-reads
-use Rattle.server.proofs.apply.readied.Reads as readied-reads
 
--- src/apply.rt:88:9
 readied-requires : tie.Need-readied-requires
 readied-requires c κs = search needs
 
--- src/apply.rt:89:9
 answer-requires : tie.Need-answer-requires
 answer-requires c κs = search needs
 
--- src/apply.rt:75:1
 returns : tie.Need-returns
 returns c = let a = c .before .before .before .before .args in reply-taken (now (a .config)) (a .s) (c .before .before .before .readied .result) (now (a .heads)) (now (a .room)) (a .to) (a .sid) (a .t .0) (a .reply) (c .answer .result) (c .answer .last .1 .0) (c .answer .last .1 .1 .0) (c .before .before .before .readied .ensures) (c .answer .ensures)
 

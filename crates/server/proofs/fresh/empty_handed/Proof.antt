@@ -2,15 +2,10 @@ use lib.ListN.{replicate}
 use borrow.Author.Needs.{needs}
 use Rattle.server.proofs.fresh.empty_handed.Statement.{statement}
 use Rattle.server.proofs.fresh.empty_handed.Tie as tie
-use Rattle.server.proofs.fresh.empty_handed.Reads as reads
-use Rattle.server.proofs.fresh.empty_handed.Lts as lts
-use Rattle.server.proofs.state.State.new.Reads as new-reads
 
--- src/fresh.rt:34:16
 new-requires : tie.Need-new-requires
 new-requires c κs = search needs
 
--- src/fresh.rt:28:1
 returns : tie.Need-returns
 returns c = c .new .ensures (c .before .args .config) (replicate 64 0) (replicate 32 0) (replicate 4353 0)
 

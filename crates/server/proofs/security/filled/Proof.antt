@@ -10,8 +10,6 @@ use Rattle.server.specs.View.{entry}
 use Rattle.server.proofs.Levels.{fill-turn}
 use Rattle.server.proofs.security.filled.Statement.{statement}
 use Rattle.server.proofs.security.filled.Tie as tie
-use Rattle.server.proofs.security.filled.Reads as reads
-use Rattle.server.proofs.security.filled.Lts as lts
 
 abbrev Inv-loop : tie.InvT-loop
 Inv-loop seed n bytes₀ i₀ bytes i = (i ≤ length seed) × (length bytes ≡ 32) × (tab (entry bytes) 0 i ≡ take i seed)
@@ -19,32 +17,25 @@ Inv-loop seed n bytes₀ i₀ bytes i = (i ≤ length seed) × (length bytes ≡
 abbrev μ-loop : tie.MeasureT-loop
 μ-loop seed n bytes₀ i₀ bytes i = length seed - i
 
--- src/security.rt:69:5
 loop-holds : tie.Need-loop-holds Inv-loop μ-loop
 loop-holds c = (omega arith, refl, refl)
 
--- src/security.rt:70:20
 shared-slice-read-bytes : tie.Need-shared-slice-read-bytes Inv-loop μ-loop
 shared-slice-read-bytes c = search needs
 
--- src/security.rt:70:9
 array-write-bytes : tie.Need-array-write-bytes Inv-loop μ-loop
 array-write-bytes c = omega (arith, c .before .before .before .pre)
 
--- src/security.rt:71:9
 add-i : tie.Need-add-i Inv-loop μ-loop
 add-i c = search needs
 
--- src/security.rt:69:5
 loop-less : tie.Need-loop-less Inv-loop μ-loop
 loop-less c = search needs
 
--- src/security.rt:69:5
 loop-again : tie.Need-loop-again Inv-loop μ-loop
 loop-again c = let a = c .before .before .before .args in let l = c .before .before .loop in
     (omega arith, length-set (l .bytes) (l .i) (entry (now (a .seed)) (l .i)) ∙ l .inv .1, fill-turn (l .bytes) (now (a .seed)) (l .i) (l .inv .2) (omega arith) (omega (arith, c .before .before .before .pre)))
 
--- src/security.rt:62:1
 returns : tie.Need-returns Inv-loop μ-loop
 returns c = let a = c .before .before .args in let l = c .before .loop in
     let e : l .i ≡ length (now (a .seed)) = omega arith in

@@ -1,5 +1,5 @@
-use Prim.Native.Nat.{_+_, _-_, _≤_}
-use mathlib.Core.Path.{_≡_, ap, sym, _∙_}
+use Prim.Native.Nat.{_-_, _≤_}
+use mathlib.Core.Path.{_≡_, ap, _∙_}
 use native.Mathlib.Omega.{arith}
 use denote.Ref.{now}
 use borrow.Author.Tests.{eq-eqb, ne-eqb}
@@ -10,8 +10,6 @@ use Rattle.uds.proofs.Tab.{placeFrom, counted, tab-all, over, hit, miss}
 use Rattle.server.specs.View.{entry}
 use Rattle.server.proofs.security.find_level.Statement.{statement}
 use Rattle.server.proofs.security.find_level.Tie as tie
-use Rattle.server.proofs.security.find_level.Reads as reads
-use Rattle.server.proofs.security.find_level.Lts as lts
 
 abbrev Inv-loop : tie.InvT-loop
 Inv-loop levels n level rows i₀ i = (i ≤ n) × (place (isKey level) (tab (entry levels) 0 n) ≡ placeFrom (isKey level) (tab (entry levels) i (n - i)) i)
@@ -19,33 +17,26 @@ Inv-loop levels n level rows i₀ i = (i ≤ n) × (place (isKey level) (tab (en
 abbrev μ-loop : tie.MeasureT-loop
 μ-loop levels n level rows i₀ i = n - i
 
--- src/security.rt:31:5
 loop-holds : tie.Need-loop-holds Inv-loop μ-loop
 loop-holds c = let a = c .args in (omega arith, ap (place (isKey (a .level))) (tab-all (entry (now (a .levels))) (a .n)) ∙ counted (isKey (a .level)) (tab (entry (now (a .levels))) 0 (a .n - 0)))
 
--- src/security.rt:32:12
 element-copy-out-if1 : tie.Need-element-copy-out-if1 Inv-loop μ-loop
 element-copy-out-if1 c = omega (arith, c .before .before .pre)
 
--- src/security.rt:33:13
 returns : tie.Need-returns Inv-loop μ-loop
 returns c = let a = c .before .before .before .before .args in let l = c .before .before .before .loop in
     hit (entry (now (a .levels))) (isKey (a .level)) (a .n) (l .i) _ (l .inv .1) (omega arith) (eq-eqb _ _ (c .if1 .taken))
 
--- src/security.rt:35:9
 add-i : tie.Need-add-i Inv-loop μ-loop
 add-i c = search needs
 
--- src/security.rt:31:5
 loop-less : tie.Need-loop-less Inv-loop μ-loop
 loop-less c = search needs
 
--- src/security.rt:31:5
 loop-again : tie.Need-loop-again Inv-loop μ-loop
 loop-again c = let a = c .before .before .before .before .args in let l = c .before .before .before .loop in
     (omega arith, miss (entry (now (a .levels))) (isKey (a .level)) (a .n) (l .i) _ (l .inv .1) (omega arith) (ne-eqb _ _ (c .if1 .left)))
 
--- src/security.rt:25:1
 returns-2 : tie.Need-returns-2 Inv-loop μ-loop
 returns-2 c = let a = c .before .before .args in let l = c .before .loop in over (entry (now (a .levels))) (isKey (a .level)) (a .n) (l .i) _ (l .inv .1) (omega arith)
 

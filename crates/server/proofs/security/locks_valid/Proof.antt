@@ -11,8 +11,6 @@ use Rattle.uds.proofs.Tab.{tab-all, kept, broken, still}
 use Rattle.server.specs.View.{entry}
 use Rattle.server.proofs.security.locks_valid.Statement.{statement}
 use Rattle.server.proofs.security.locks_valid.Tie as tie
-use Rattle.server.proofs.security.locks_valid.Reads as reads
-use Rattle.server.proofs.security.locks_valid.Lts as lts
 
 abbrev Inv-loop : tie.InvT-loop
 Inv-loop untils n rows i₀ i = (i ≤ n) × (all momentValid (tab (entry untils) 0 n) ≡ all momentValid (tab (entry untils) i (n - i)))
@@ -20,35 +18,27 @@ Inv-loop untils n rows i₀ i = (i ≤ n) × (all momentValid (tab (entry untils
 abbrev μ-loop : tie.MeasureT-loop
 μ-loop untils n rows i₀ i = n - i
 
--- src/security.rt:86:5
 loop-holds : tie.Need-loop-holds Inv-loop μ-loop
 loop-holds c = let a = c .args in (omega arith, ap (all momentValid) (tab-all (entry (now (a .untils))) (a .n)))
 
--- src/security.rt:87:25
 mul-if1 : tie.Need-mul-if1 Inv-loop μ-loop
 mul-if1 c = omega (arith, c .before .before .pre)
 
--- src/security.rt:87:25
 element-copy-out-if1 : tie.Need-element-copy-out-if1 Inv-loop μ-loop
 element-copy-out-if1 c = omega (arith, c .before .before .pre)
 
--- src/security.rt:88:13
 returns : tie.Need-returns Inv-loop μ-loop
 returns c = let a = c .before .before .before .before .args in let l = c .before .before .before .loop in broken (entry (now (a .untils))) momentValid (a .n) (l .i) _ (l .inv .1) (omega arith) (lt-leb _ _ (c .if1 .taken))
 
--- src/security.rt:90:9
 add-i : tie.Need-add-i Inv-loop μ-loop
 add-i c = search needs
 
--- src/security.rt:86:5
 loop-less : tie.Need-loop-less Inv-loop μ-loop
 loop-less c = search needs
 
--- src/security.rt:86:5
 loop-again : tie.Need-loop-again Inv-loop μ-loop
 loop-again c = let a = c .before .before .before .before .args in let l = c .before .before .before .loop in (omega arith, still (entry (now (a .untils))) momentValid (a .n) (l .i) _ (l .inv .1) (omega arith) (le-leb _ _ (c .if1 .left)))
 
--- src/security.rt:80:1
 returns-2 : tie.Need-returns-2 Inv-loop μ-loop
 returns-2 c = let a = c .before .before .args in let l = c .before .loop in kept (entry (now (a .untils))) momentValid (a .n) (l .i) _ (l .inv .1) (omega arith)
 

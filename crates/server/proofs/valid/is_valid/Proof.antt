@@ -1,5 +1,4 @@
 use mathlib.Core.Path.{sym, _∙_}
-use native.Mathlib.Omega.{arith}
 use denote.Ref.{now}
 use borrow.Author.Tests.{not-true, not-false, le-leb, lt-leb}
 use Rattle.server.specs.View.{stateOf}
@@ -7,55 +6,37 @@ use Rattle.server.proofs.Kept.{no-config, no-moment, no-security, no-pe
 use borrow.Author.Needs.{needs}
 use Rattle.server.proofs.valid.is_valid.Statement.{statement}
 use Rattle.server.proofs.valid.is_valid.Tie as tie
-use Rattle.server.proofs.valid.is_valid.Reads as reads
-use Rattle.server.proofs.valid.is_valid.Lts as lts
-use Rattle.config.proofs.within.Reads as within-reads
-use Rattle.periodic.proofs.subscriptions_valid.Reads as subscriptions-valid-reads
-use Rattle.queue.proofs.drain.frames_valid.Reads as frames-valid-reads
-use Rattle.server.proofs.security.SecurityState.is_valid.Reads as security-SecurityState-is-valid-reads
-use Rattle.server.proofs.state.PendingRequest.is_valid.Reads as state-PendingRequest-is-valid-reads
 
--- src/valid.rt:34:9
 within-requires : tie.Need-within-requires
 within-requires c κs = search needs
 
--- src/valid.rt:35:9
 returns : tie.Need-returns
 returns c = let a = c .before .before .args in let m = stateOf (now (a .config)) (a .s) (now (a .subs)) (now (a .heads)) (now (a .room)) in no-config m (sym (c .before .within .ensures) ∙ not-true _ (c .if1 .taken))
 
--- src/valid.rt:40:9
 returns-2 : tie.Need-returns-2
 returns-2 c = let a = c .before .before .before .before .before .before .args in let m = stateOf (now (a .config)) (a .s) (now (a .subs)) (now (a .heads)) (now (a .room)) in no-moment m (sym (c .before .before .before .before .before .within .ensures) ∙ not-false _ (c .before .before .before .before .if1 .left)) (lt-leb _ _ (c .if2 .taken))
 
--- src/valid.rt:43:9
 is-valid-requires : tie.Need-is-valid-requires
 is-valid-requires c κs = search needs
 
--- src/valid.rt:44:9
 returns-3 : tie.Need-returns-3
 returns-3 c = let a = c .before .before .before .before .before .before .before .before .before .args in let m = stateOf (now (a .config)) (a .s) (now (a .subs)) (now (a .heads)) (now (a .room)) in no-security m (sym (c .before .before .before .before .before .before .before .before .within .ensures) ∙ not-false _ (c .before .before .before .before .before .before .before .if1 .left)) (le-leb _ _ (c .before .before .before .if2 .left)) (sym (c .before .is-valid .ensures) ∙ not-true _ (c .if3 .taken))
 
--- src/valid.rt:46:9
 subscriptions-valid-requires : tie.Need-subscriptions-valid-requires
 subscriptions-valid-requires c κs = search needs
 
--- src/valid.rt:47:9
 returns-4 : tie.Need-returns-4
 returns-4 c = let a = c .before .before .before .before .before .before .before .before .before .before .before .args in let m = stateOf (now (a .config)) (a .s) (now (a .subs)) (now (a .heads)) (now (a .room)) in no-periodic m (sym (c .before .before .before .before .before .before .before .before .before .before .within .ensures) ∙ not-false _ (c .before .before .before .before .before .before .before .before .before .if1 .left)) (le-leb _ _ (c .before .before .before .before .before .if2 .left)) (sym (c .before .before .before .is-valid .ensures) ∙ not-false _ (c .before .before .if3 .left)) (sym (c .before .subscriptions-valid .ensures) ∙ not-true _ (c .if4 .taken))
 
--- src/valid.rt:50:9
 is-valid-requires-2 : tie.Need-is-valid-requires-2
 is-valid-requires-2 c κs = search needs
 
--- src/valid.rt:51:9
 returns-5 : tie.Need-returns-5
 returns-5 c = let a = c .before .before .before .before .before .before .before .before .before .before .before .before .before .before .args in let m = stateOf (now (a .config)) (a .s) (now (a .subs)) (now (a .heads)) (now (a .room)) in no-pending m (sym (c .before .before .before .before .before .before .before .before .before .before .before .before .before .within .ensures) ∙ not-false _ (c .before .before .before .before .before .before .before .before .before .before .before .before .if1 .left)) (le-leb _ _ (c .before .before .before .before .before .before .before .before .if2 .left)) (sym (c .before .before .before .before .before .before .is-valid .ensures) ∙ not-false _ (c .before .before .before .before .before .if3 .left)) (sym (c .before .before .before .before .subscriptions-valid .ensures) ∙ not-false _ (c .before .before .before .if4 .left)) (sym (c .before .is-valid2 .ensures) ∙ not-true _ (c .if5 .taken))
 
--- src/valid.rt:53:5
 frames-valid-requires : tie.Need-frames-valid-requires
 frames-valid-requires c κs = search needs
 
--- src/valid.rt:31:1
 returns-6 : tie.Need-returns-6
 returns-6 c = let a = c .before .before .before .before .before .before .before .before .before .before .before .before .before .before .before .args in let m = stateOf (now (a .config)) (a .s) (now (a .subs)) (now (a .heads)) (now (a .room)) in c .frames-valid .ensures ∙ as-queue m (sym (c .before .before .before .before .before .before .before .before .before .before .before .before .before .before .within .ensures) ∙ not-false _ (c .before .before .before .before .before .before .before .before .before .before .before .before .before .if1 .left)) (le-leb _ _ (c .before .before .before .before .before .before .before .before .before .if2 .left)) (sym (c .before .before .before .before .before .before .before .is-valid .ensures) ∙ not-false _ (c .before .before .before .before .before .before .if3 .left)) (sym (c .before .before .before .before .before .subscriptions-valid .ensures) ∙ not-false _ (c .before .before .before .before .if4 .left)) (sym (c .before .before .is-valid2 .ensures) ∙ not-false _ (c .before .if5 .left))
 

@@ -5,33 +5,22 @@ use Rattle.server.proofs.Begun.{fresh-kept, fresh-refused}
 use borrow.Author.Needs.{needs}
 use Rattle.server.proofs.fresh.Server.fresh.Statement.{statement}
 use Rattle.server.proofs.fresh.Server.fresh.Tie as tie
-use Rattle.server.proofs.fresh.Server.fresh.Reads as reads
-use Rattle.server.proofs.fresh.Server.fresh.Lts as lts
-use Rattle.config.proofs.build.new.Reads as new-reads
-use Rattle.config.proofs.within.Reads as within-reads
-use Rattle.server.proofs.fresh.empty_handed.Reads as empty-handed-reads
 
--- src/fresh.rt:45:12
 within-requires : tie.Need-within-requires
 within-requires c κs = search needs
 
--- src/fresh.rt:47:25
 empty-handed-requires : tie.Need-empty-handed-requires
 empty-handed-requires c κs = search needs
 
--- src/fresh.rt:46:13
 returns : tie.Need-returns
 returns c = fresh-kept (configOf (c .before .before .before .before .args .t1)) (serverOf (c .empty-handed .result)) (sym (c .before .before .within .ensures) ∙ c .before .if1 .taken) (c .empty-handed .ensures)
 
--- src/fresh.rt:52:34
 new-requires : tie.Need-new-requires
 new-requires c κs = search needs
 
--- src/fresh.rt:52:21
 empty-handed-requires-2 : tie.Need-empty-handed-requires-2
 empty-handed-requires-2 c κs = search needs
 
--- src/fresh.rt:42:5
 returns-2 : tie.Need-returns-2
 returns-2 c = fresh-refused (configOf (c .before .before .before .before .before .args .t1)) (configOf (c .before .new .result)) (serverOf (c .empty-handed2 .result)) (sym (c .before .before .before .within .ensures) ∙ c .before .before .if1 .left) (c .empty-handed2 .ensures) (c .before .new .ensures)
 

@@ -5,34 +5,25 @@ use Rattle.server.proofs.Levels.{lock-more, lock-full}
 use borrow.Author.Needs.{needs}
 use Rattle.server.proofs.security.SecurityState.first_lock.Statement.{statement}
 use Rattle.server.proofs.security.SecurityState.first_lock.Tie as tie
-use Rattle.server.proofs.security.SecurityState.first_lock.Reads as reads
-use Rattle.server.proofs.security.SecurityState.first_lock.Lts as lts
 
--- src/security.rt:213:13
 returns : tie.Need-returns
 returns c = let a = c .before .args in lock-full (a .self) (a .level) (a .until .0) (c .before .pre) (omega arith)
 
--- src/security.rt:218:18
 cast-at : tie.Need-cast-at
 cast-at c = search needs
 
--- src/security.rt:220:9
 element-write-next : tie.Need-element-write-next
 element-write-next c = search needs
 
--- src/security.rt:221:9
 mul-next : tie.Need-mul-next
 mul-next c = search needs
 
--- src/security.rt:221:9
 element-write-next-2 : tie.Need-element-write-next-2
 element-write-next-2 c = search needs
 
--- src/security.rt:222:22
 add-next : tie.Need-add-next
 add-next c = search needs
 
--- src/security.rt:207:5
 returns-2 : tie.Need-returns-2
 returns-2 c = let a = c .before .args in
     let x : length (a .self .«lock_levels») ≡ 8 = search needs in

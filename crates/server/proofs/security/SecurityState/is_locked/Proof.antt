@@ -4,40 +4,28 @@ use mathlib.Core.Path.{_∙_}
 use Rattle.server.proofs.Levels.{locked-at, locked-not, lock-below}
 use Rattle.server.proofs.security.SecurityState.is_locked.Statement.{statement}
 use Rattle.server.proofs.security.SecurityState.is_locked.Tie as tie
-use Rattle.server.proofs.security.SecurityState.is_locked.Reads as reads
-use Rattle.server.proofs.security.SecurityState.is_locked.Lts as lts
-use Rattle.server.proofs.security.find_level.Reads as find-level-reads
-use Rattle.uds.proofs.clock.Instant.is_before.Reads as is-before-reads
 
--- src/security.rt:66:28
 find-level-requires : tie.Need-find-level-requires
 find-level-requires c κs = search needs
 
--- src/security.rt:66:23
 enum-known-i : tie.Need-enum-known-i
 enum-known-i c = search needs
 
--- src/security.rt:67:13
 enum-told : tie.Need-enum-told
 enum-told c = search needs
 
--- src/security.rt:67:13
 returns : tie.Need-returns
 returns c = let a = c .before .before .before .before .before .args in locked-not (a .self) (a .level) (c .before .before .find-level .result) (c .before .before .find-level .ensures) (a .now .0) (c .enum-told .given .1)
 
--- src/security.rt:70:31
 mul-t9 : tie.Need-mul-t9
 mul-t9 c = let a = c .before .before .before .before .before .before .before .args in omega (arith, lock-below (a .self) (a .level) (c .before .before .before .before .find-level .result) (c .before .before .before .before .find-level .ensures) (c .before .before .i .given .0 .0) (c .before .before .i .given .1), c .before .before .before .before .before .before .before .pre)
 
--- src/security.rt:70:31
 array-read-t12 : tie.Need-array-read-t12
 array-read-t12 c = let a = c .before .before .before .before .before .before .before .args in omega (arith, lock-below (a .self) (a .level) (c .before .before .before .before .find-level .result) (c .before .before .before .before .find-level .ensures) (c .before .before .i .given .0 .0) (c .before .before .i .given .1), c .before .before .before .before .before .before .before .pre)
 
--- src/security.rt:70:9
 is-before-requires : tie.Need-is-before-requires
 is-before-requires c κs = search needs
 
--- src/security.rt:61:5
 returns-2 : tie.Need-returns-2
 returns-2 c = let a = c .before .before .before .before .before .before .before .before .args in c .is-before .ensures ∙ locked-at (a .self) (a .level) (c .before .before .before .before .before .find-level .result) (c .before .before .before .before .before .find-level .ensures) (c .before .before .before .i .given .0 .0) (a .now .0) (c .before .before .before .i .given .1)
 

@@ -5,31 +5,22 @@ use Rattle.server.proofs.Levels.{failed-below, failed-none, failed-rese
 use borrow.Author.Needs.{needs}
 use Rattle.server.proofs.security.SecurityState.reset_failed.Statement.{statement}
 use Rattle.server.proofs.security.SecurityState.reset_failed.Tie as tie
-use Rattle.server.proofs.security.SecurityState.reset_failed.Reads as reads
-use Rattle.server.proofs.security.SecurityState.reset_failed.Lts as lts
-use Rattle.server.proofs.security.find_level.Reads as find-level-reads
 
--- src/security.rt:181:28
 find-level-requires : tie.Need-find-level-requires
 find-level-requires c κs = search needs
 
--- src/security.rt:181:23
 enum-known-i : tie.Need-enum-known-i
 enum-known-i c = search needs
 
--- src/security.rt:182:13
 enum-told : tie.Need-enum-told
 enum-told c = search needs
 
--- src/security.rt:182:13
 returns : tie.Need-returns
 returns c = let a = c .before .before .before .before .before .args in failed-none (a .self) (a .level) (c .before .before .before .before .before .pre) (c .before .before .find-level .result) (c .before .before .find-level .ensures) (c .enum-told .given .1)
 
--- src/security.rt:185:9
 element-write-next : tie.Need-element-write-next
 element-write-next c = let a = c .before .before .before .before .before .before .args in omega (arith, failed-below (a .self) (a .level) (c .before .before .before .find-level .result) (c .before .before .before .find-level .ensures) (c .before .i .given .0 .0) (c .before .i .given .1), c .before .before .before .before .before .before .pre)
 
--- src/security.rt:176:5
 returns-2 : tie.Need-returns-2
 returns-2 c = let a = c .before .before .before .before .before .before .args in
     let z : length (a .self .«failed_counts») ≡ 8 = search needs in

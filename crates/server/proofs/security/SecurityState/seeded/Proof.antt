@@ -4,28 +4,19 @@ use Rattle.server.proofs.Levels.{seed-long, seed-held}
 use borrow.Author.Needs.{needs}
 use Rattle.server.proofs.security.SecurityState.seeded.Statement.{statement}
 use Rattle.server.proofs.security.SecurityState.seeded.Tie as tie
-use Rattle.server.proofs.security.SecurityState.seeded.Reads as reads
-use Rattle.server.proofs.security.SecurityState.seeded.Lts as lts
-use Rattle.server.proofs.security.SecurityState.clear_pending.Reads as clear-pending-reads
-use Rattle.server.proofs.security.filled.Reads as filled-reads
 
--- src/security.rt:135:13
 clear-pending-requires : tie.Need-clear-pending-requires
 clear-pending-requires c κs = search needs
 
--- src/security.rt:138:13
 returns : tie.Need-returns
 returns c = let a = c .before .before .before .args in seed-long (a .self) (c .before .clear-pending .result) (a .level) (now (a .seed)) (c .before .clear-pending .ensures) (omega arith)
 
--- src/security.rt:140:13
 filled-requires : tie.Need-filled-requires
 filled-requires c κs = search needs
 
--- src/security.rt:142:25
 cast-next : tie.Need-cast-next
 cast-next c = search needs
 
--- src/security.rt:132:5
 returns-2 : tie.Need-returns-2
 returns-2 c = let a = c .before .before .before .before .args in seed-held (a .self) (c .before .before .clear-pending .result) (a .level) (now (a .seed)) (c .before .before .clear-pending .ensures) (c .filled .result) (c .filled .ensures) (omega arith)
 

@@ -5,40 +5,28 @@ use Rattle.server.proofs.Levels.{lock-below, lock-new, lock-again}
 use borrow.Author.Needs.{needs}
 use Rattle.server.proofs.security.SecurityState.set_lockout.Statement.{statement}
 use Rattle.server.proofs.security.SecurityState.set_lockout.Tie as tie
-use Rattle.server.proofs.security.SecurityState.set_lockout.Reads as reads
-use Rattle.server.proofs.security.SecurityState.set_lockout.Lts as lts
-use Rattle.server.proofs.security.SecurityState.first_lock.Reads as first-lock-reads
-use Rattle.server.proofs.security.find_level.Reads as find-level-reads
 
--- src/security.rt:195:28
 find-level-requires : tie.Need-find-level-requires
 find-level-requires c κs = search needs
 
--- src/security.rt:195:23
 enum-known-i : tie.Need-enum-known-i
 enum-known-i c = search needs
 
--- src/security.rt:196:13
 enum-told : tie.Need-enum-told
 enum-told c = search needs
 
--- src/security.rt:196:13
 first-lock-requires : tie.Need-first-lock-requires
 first-lock-requires c κs = search needs
 
--- src/security.rt:196:13
 returns : tie.Need-returns
 returns c = let a = c .before .before .before .before .before .before .args in lock-new (a .self) (a .level) (a .until .0) (c .before .before .before .before .before .before .pre) (c .before .before .before .find-level .result) (c .before .before .before .find-level .ensures) (c .first-lock .result) (c .before .enum-told .given .1) (c .first-lock .ensures)
 
--- src/security.rt:199:9
 mul-next : tie.Need-mul-next
 mul-next c = let a = c .before .before .before .before .before .before .args in omega (arith, lock-below (a .self) (a .level) (c .before .before .before .find-level .result) (c .before .before .before .find-level .ensures) (c .before .i .given .0 .0) (c .before .i .given .1), c .before .before .before .before .before .before .pre)
 
--- src/security.rt:199:9
 element-write-next : tie.Need-element-write-next
 element-write-next c = let a = c .before .before .before .before .before .before .args in omega (arith, lock-below (a .self) (a .level) (c .before .before .before .find-level .result) (c .before .before .before .find-level .ensures) (c .before .i .given .0 .0) (c .before .i .given .1), c .before .before .before .before .before .before .pre)
 
--- src/security.rt:190:5
 returns-2 : tie.Need-returns-2
 returns-2 c = let a = c .before .before .before .before .before .before .args in
     let z : length (a .self .untils) ≡ 8 = search needs in

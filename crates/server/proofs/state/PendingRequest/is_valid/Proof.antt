@@ -2,14 +2,10 @@ use mathlib.Core.Path.{refl}
 use borrow.Author.Needs.{needs}
 use Rattle.server.proofs.state.PendingRequest.is_valid.Statement.{statement}
 use Rattle.server.proofs.state.PendingRequest.is_valid.Tie as tie
-use Rattle.server.proofs.state.PendingRequest.is_valid.Reads as reads
-use Rattle.server.proofs.state.PendingRequest.is_valid.Lts as lts
 
--- src/valid.rt:24:13
 returns : tie.Need-returns
 returns c = rw (c .before .before .if1 .taken) refl
 
--- src/valid.rt:19:5
 returns-2 : tie.Need-returns-2
 returns-2 c = search needs
 

@@ -30,6 +30,16 @@ module _ {B : Type 0} (p : B → Bool) where
       go true o z ih = absurd (Option·some-ne-none 0 z)
       go false (some j) z ih = absurd (Option·some-ne-none (suc j) z)
       go false none z ih = ih refl
+
+  -- a row that is not there is not changed
+  pub change-none : (change : B → B) (l : List B) → place p l ≡ none → changeFirst p change l ≡ l
+  change-none change [] e = refl
+  change-none change (a ∷ l) e = go (p a) (place p l) e (change-none change l)
+    where
+      go : (b : Bool) (o : Option ℕ) → pick b (some 0) (Option·map suc o) ≡ none → (o ≡ none → changeFirst p change l ≡ l) → pick b (change a ∷ l) (a ∷ changeFirst p change l) ≡ a ∷ l
+      go true o z ih = absurd (Option·some-ne-none 0 z)
+      go false none z ih = ap (a ∷_) (ih refl)
+      go false (some j) z ih = absurd (Option·some-ne-none (suc j) z)
 
   -- the row at the place changed, and the others as they were
   pub change-at : (change : B → B) (f g : ℕ → B) (k n i : ℕ) → place p (tab f k n) ≡ some i → g (k + i) ≡ change (f (k + i))
