@@ -3,3 +3,4 @@ pub mod Applied
 pub mod Kept
 pub mod Begun
 pub mod Drained
+pub mod Settled

@@ -25,13 +25,7 @@ impl PendingRequest {
 }
 
 // The state is valid: all that it holds, and all that is lent beside it.
-pub fn is_valid(
-    config: &Config,
-    s: State,
-    subs: &Subscriptions,
-    heads: &Heads,
-    room: &Room,
-) -> bool
+pub fn is_valid(config: &Config, s: State, subs: &Subscriptions, heads: &Heads, room: &Room) -> bool
     ensures { λ r. ⌜ r ≡ Model.valid maxFrame (stateOf (now (config .entry)) s (now (subs .entry)) (now (heads .entry)) (now (room .entry))) ⌝ }
 {
     if !config::within(config) {
