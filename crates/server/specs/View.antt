@@ -4,10 +4,10 @@ use mathlib.Core.Path.{_≡_}
 use mathlib.Core.Bool.{Bool, true, false}
 use mathlib.Core.List.{List, [], _∷_, _++_}
 use mathlib.Core.Option.{Option, some, none}
-use lib.ListN.{length, getD}
+use lib.ListN.{length, getD, replicate}
 use lib.Dec.{leb, ltb}
 use Rattle.model.specs.Tests.{pick, changeFirst}
-use Rattle.model.specs.Numbers.{maxFrame, maxLevels}
+use Rattle.model.specs.Numbers.{maxFrame, maxLevels, maxSeed}
 use Rattle.model.specs.State as Model
 use Rattle.model.specs.Drain as Drain
 use Rattle.model.specs.State.{Failed, Lock, Security, Session, cleared}
@@ -83,6 +83,11 @@ pub record Enters (k : SecurityState) (o : Option Security) (r : Entered) : Type
 pub record Resets (k : SecurityState) (level : ℕ) (r : SecurityState) : Type 0 where
   pub state : securityOf r ≡ withFailed (securityOf k) (changeFirst (isFailed level) forget (securityOf k .failed))
   pub counts : Counts r
+
+-- no seed awaits its key, and no byte of it is left
+pub record Clears (k r : SecurityState) : Type 0 where
+  pub state : securityOf r ≡ cleared (securityOf k)
+  pub overwritten : r .seed ≡ replicate maxSeed 0
 
 -- a seed of at most 32 bytes that awaits its key
 pub record Seeds (k : SecurityState) (level : ℕ) (seed : List ℕ) (r : SecurityState) : Type 0 where

@@ -7,7 +7,7 @@ ghost use Rattle.model.specs.Tests.{place, all};
 ghost use Rattle.model.specs.State as Model;
 ghost use Rattle.model.specs.Service27 as Rules;
 ghost use Rattle.uds.specs.Table.{tab, isKey, placeOf};
-ghost use Rattle.server.specs.View.{entry, securityOf, withFailed, withLocks, added, Counts, Seeds, Enters, Resets};
+ghost use Rattle.server.specs.View.{entry, securityOf, withFailed, withLocks, added, Counts, Clears, Seeds, Enters, Resets};
 use uds::clock::Instant;
 use uds::table::Found;
 
@@ -138,7 +138,7 @@ impl SecurityState {
 
     // The seed is overwritten, not only shortened.
     pub(crate) fn clear_pending(self) -> SecurityState
-        ensures { λ r. ⌜ securityOf r ≡ Model.cleared (securityOf self) ⌝ }
+        ensures { λ r. ⌜ Clears self r ⌝ }
     {
         let mut next = self;
         next.seed = [0; 32];

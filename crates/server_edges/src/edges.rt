@@ -49,7 +49,7 @@ fn locked(s: State, t: u64) -> State {
     next
 }
 
-pub fn moments(v: Server) {
+pub(crate) fn moments(v: Server) {
     let s = v.state;
     pair(
         b"last request",
@@ -82,7 +82,7 @@ fn subscribed(s: State, subscriptions: u8) -> State {
     next
 }
 
-pub fn counts(v: Server) {
+pub(crate) fn counts(v: Server) {
     let s = v.state;
     pair(b"seed", v, secured(s, 32, 0, 0), secured(s, 33, 0, 0));
     pair(b"counts", v, secured(s, 0, 8, 0), secured(s, 0, 9, 0));
@@ -119,7 +119,7 @@ fn framed(v: Server, count: u8, len: u32) {
     show::drain(next, &mut out);
 }
 
-pub fn frames(v: Server) {
+pub(crate) fn frames(v: Server) {
     framed(v, 16, 1);
     framed(v, 17, 1);
     framed(v, 1, 256);

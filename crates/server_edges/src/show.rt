@@ -2,7 +2,7 @@
 use libc::STDOUT_FILENO;
 use server::fresh::Server;
 
-pub fn text(t: &[u8]) {
+pub(crate) fn text(t: &[u8]) {
     io::write_all(STDOUT_FILENO, t);
 }
 
@@ -26,7 +26,7 @@ fn bytes(b: &[u8]) {
 }
 
 // The result, the two addresses, the session, the level, and how many subscriptions and frames there are.
-pub fn server(result: u8, v: Server) {
+pub(crate) fn server(result: u8, v: Server) {
     let c = v.config;
     let state = v.state;
     let session = state.session;
@@ -41,7 +41,7 @@ pub fn server(result: u8, v: Server) {
 }
 
 // The result, how many frames were written, how many wait then, and the buffer.
-pub fn drain(v: Server, out: &mut [u8]) -> Server {
+pub(crate) fn drain(v: Server, out: &mut [u8]) -> Server {
     let d = v.drain(out);
     let left = d.server;
     let state = left.state;
