@@ -21,8 +21,10 @@ use ours::Ours;
 use plain::Plain;
 use published::Published;
 use queue::Queue;
+use timing::Bench;
 
 const COMPARED: usize = 20_000;
+const ROUNDS: usize = 1001;
 
 fn row(name: &str, cells: [String; 3]) {
     println!("{name:<34}{:>18}{:>18}{:>18}", cells[0], cells[1], cells[2]);
@@ -35,20 +37,31 @@ fn heading(what: &str) {
     );
 }
 
-/// Three medians as lowest and highest; the queues take turns, so that a disturbance does not meet one alone.
+/// Lowest and highest of three medians. In every round each queue has its turn, so that a machine whose speed changes is the same for all.
 fn times() {
     heading("ns per operation");
     let (ours, published, plain) = (cases::timed(), cases::timed(), cases::timed());
-    for i in 0..ours.len() {
+    for (i, ((a, b), c)) in ours.into_iter().zip(published).zip(plain).enumerate() {
+        let name = a.name;
+        let mut a = Bench::<Ours>::new(a);
+        let mut b = Bench::<Published>::new(b);
+        let mut c = Bench::<Plain>::new(c);
         let mut sides = [vec![], vec![], vec![]];
         for _ in 0..3 {
-            sides[0].push(timing::median::<Ours>(&ours[i]));
-            if i != cases::REFUSED {
-                sides[1].push(timing::median::<Published>(&published[i]));
+            for _ in 0..ROUNDS {
+                a.round();
+                if i != cases::REFUSED {
+                    b.round();
+                }
+                c.round();
             }
-            sides[2].push(timing::median::<Plain>(&plain[i]));
+            sides[0].push(a.median());
+            if i != cases::REFUSED {
+                sides[1].push(b.median());
+            }
+            sides[2].push(c.median());
         }
-        row(ours[i].name, sides.map(|s| spread(&s)));
+        row(name, sides.map(|s| spread(&s)));
     }
 }
 
@@ -75,11 +88,7 @@ fn stacks() {
 }
 
 fn run<Q: Queue>(case: usize, times: u32) {
-    let case = &cases::timed::<Q>()[case];
-    let mut queue = Box::new(Q::new());
-    let mut out = vec![0; case.lent];
-    (case.ready)(&mut queue);
-    timing::repeat(case, &mut queue, &mut out, times);
+    Bench::<Q>::new(cases::timed().swap_remove(case)).repeat(times);
 }
 
 fn main() -> ExitCode {

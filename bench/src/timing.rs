@@ -6,28 +6,47 @@ use std::time::Instant;
 use crate::cases::Case;
 use crate::queue::Queue;
 
-const ROUNDS: usize = 601;
 const RUNS: u32 = 500;
 
-pub fn repeat<Q: Queue>(case: &Case<Q>, queue: &mut Q, out: &mut [u8], times: u32) {
-    for _ in 0..times {
-        (black_box(case.run))(black_box(queue), black_box(out));
-    }
+/// A case on a queue that is made ready for it. Nothing is cleared between operations.
+pub struct Bench<Q> {
+    case: Case<Q>,
+    queue: Box<Q>,
+    out: Vec<u8>,
+    rounds: Vec<f64>,
 }
 
-/// The median over the rounds of the mean in a round, in ns. Nothing is cleared between operations.
-pub fn median<Q: Queue>(case: &Case<Q>) -> f64 {
-    let mut queue = Box::new(Q::new());
-    let mut out = vec![0; case.lent];
-    (case.ready)(&mut queue);
-    repeat(case, &mut queue, &mut out, 20 * RUNS);
-    let mut rounds: Vec<u128> = (0..ROUNDS)
-        .map(|_| {
-            let start = Instant::now();
-            repeat(case, &mut queue, &mut out, RUNS);
-            start.elapsed().as_nanos()
-        })
-        .collect();
-    rounds.sort_unstable();
-    rounds[ROUNDS / 2] as f64 / f64::from(RUNS)
+impl<Q: Queue> Bench<Q> {
+    pub fn new(case: Case<Q>) -> Self {
+        let mut queue = Box::new(Q::new());
+        (case.ready)(&mut queue);
+        let out = vec![0; case.lent];
+        Self {
+            case,
+            queue,
+            out,
+            rounds: Vec::new(),
+        }
+    }
+
+    pub fn repeat(&mut self, times: u32) {
+        for _ in 0..times {
+            (black_box(self.case.run))(black_box(&mut self.queue), black_box(&mut self.out));
+        }
+    }
+
+    /// The mean of one round, in ns.
+    pub fn round(&mut self) {
+        let start = Instant::now();
+        self.repeat(RUNS);
+        let mean = start.elapsed().as_nanos() as f64 / f64::from(RUNS);
+        self.rounds.push(mean);
+    }
+
+    /// The median of the rounds; they begin anew.
+    pub fn median(&mut self) -> f64 {
+        let mut rounds = std::mem::take(&mut self.rounds);
+        rounds.sort_unstable_by(f64::total_cmp);
+        rounds[rounds.len() / 2]
+    }
 }
