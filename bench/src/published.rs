@@ -47,7 +47,7 @@ pub struct Published {
     drained: ace_core::Vec<(NodeAddress, ace_core::Vec<u8, 256>), 16>,
 }
 
-/// Neither helper looks at the time.
+/// Neither response looks at the time.
 fn now() -> Instant {
     Instant::from_micros(0)
 }
@@ -69,7 +69,7 @@ impl Queue for Published {
         }
     }
 
-    // The only error that either helper gives is a full outbox.
+    // The only error that either response gives is a full outbox.
     #[inline(never)]
     fn confirm(&mut self, functional: bool, to: u32, sid: u8, payload: &[u8]) -> u8 {
         access::address(&mut self.server, functional);
