@@ -15,6 +15,7 @@ use super::Heads;
 use super::Room;
 
 // The result, how many frames were written, and how many wait then.
+#[repr(C)]
 pub struct Drained {
     pub result: u8,
     pub frames: u8,

@@ -20,6 +20,7 @@ pub enum Reply {
 }
 
 // The result, and how many frames wait then.
+#[repr(C)]
 pub struct Pushed {
     pub result: u8,
     pub count: u8,

@@ -75,11 +75,7 @@ pub fn restore<H: ServerHandler, S: SecurityProvider>(server: &mut Meter<H, S>, 
         last_rx: Instant::from_micros(to.last_rx),
         security_level: to.level,
     };
-    server.inbound = if to.functional {
-        AddressMode::Functional
-    } else {
-        AddressMode::Physical
-    };
+    address(server, to.functional);
     server.pending = to.pending.map(|(dst, sid, deadline)| PendingRequest {
         dst: NodeAddress(dst),
         sid,
@@ -106,6 +102,18 @@ pub fn restore<H: ServerHandler, S: SecurityProvider>(server: &mut Meter<H, S>, 
         .map(|(dst, frame)| (NodeAddress(*dst), bounded(frame)))
         .collect();
     server.outbox = bounded(&queue);
+}
+
+/// How the request at hand was addressed, which decides what a refusal withholds.
+pub fn address<H: ServerHandler, S: SecurityProvider>(
+    server: &mut Meter<H, S>,
+    functional: bool,
+) {
+    server.inbound = if functional {
+        AddressMode::Functional
+    } else {
+        AddressMode::Physical
+    };
 }
 
 fn entry(of: &(u16, u32, u64, u64)) -> PeriodicEntry {
