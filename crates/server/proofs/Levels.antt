@@ -1,61 +1,29 @@
--- What a search among levels tells of the counts and the locks.
-use Prim.Native.Nat.{ℕ, _+_, _≤_, _<_, min}
+-- The two lists of levels, refused keys and locks, are alike: levels beside values, and a search among the levels. Each law is said of both.
+use Prim.Native.Nat.{ℕ, _+_, _≤_, _<_}
 use mathlib.Core.Path.{_≡_, refl, ap, ap₂, sym, _∙_}
 use mathlib.Core.Bool.{Bool, true, false, false≢true}
 use mathlib.Core.List.{List, [], _∷_, _++_}
-use mathlib.Core.Option.{some, none, Option·map}
+use mathlib.Core.Option.{Option, some, none, Option·map, Option·some-ne-none}
+use native.Mathlib.Decide.{decLe}
 use native.Mathlib.Omega.{arith}
 use native.Mathlib.Numerals.{add-one}
 use lib.ListN.{length, take, set}
 use lib.Seq.{getD-set-same, getD-set-other, take-suc}
-use lib.Dec.{ltb}
+use lib.Dec.{leb}
 use borrow.Author.Tests.{lt-ltb, le-ltb, le-leb, lt-leb}
-use Rattle.model.specs.Tests.{all, place, enter}
+use Rattle.model.specs.Tests.{pick, all, first, place, changeFirst, enter}
 use Rattle.model.specs.Numbers.{maxLevels}
 use Rattle.model.specs.State.{Failed, Lock, Security, cleared, momentValid, lockValid, securityValid}
-use Rattle.model.specs.Service27.{isFailed, isLock, holds, countOf, locked, failedCount, raise, forget, relock, incrementFailed, setLockout}
+use Rattle.model.specs.Service27.{isFailed, forget}
 use Rattle.model.proofs.FirstRow.{found}
 use Rattle.uds.specs.Table.{tab, isKey, placeOf, rowOf, Finds}
 use Rattle.uds.specs.declared.table.Found.{Found}
 use Rattle.uds.specs.declared.table.Found.the-variants.{At, Nothing}
 use Rattle.uds.proofs.Tab.{finds, tab-length, tab-same, tab-snoc, all-same}
 use Rattle.uds.proofs.Tables.{any-none, change-none, change-at, enter-known}
-use Rattle.server.specs.View.{entry, failedAt, lockAt, securityOf, withFailed, withLocks, Counts, Enters, Resets, Seeds, added}
+use Rattle.server.specs.View.{entry, failedAt, lockAt, securityOf, withFailed, placed, added, Counts, Enters, Resets, Seeds}
 use Rattle.server.specs.declared.security.Entered.{Entered}
 use Rattle.server.specs.declared.security.SecurityState.{SecurityState}
-
--- where an entry was found there is one
-pub found-below : {B : Type 0} (p : B → Bool) (f : ℕ → B) (n i : ℕ) → place p (tab f 0 n) ≡ some i → i < n
-found-below p f n i e = omega (arith, found p (f 0) (tab f 0 n) i e .inside, tab-length f 0 n)
-
-module _ (k : SecurityState) (level : ℕ) (r : Found) where
-  -- among the locks
-  module _ (e : placeOf r ≡ place (isKey level) (tab (entry (k .«lock_levels»)) 0 (k .locks))) where
-    pub lock-found : Finds (isLock level) (lockAt k) (k .locks) r
-    lock-found = finds (isLock level) (lockAt k) (isKey level) (entry (k .«lock_levels»)) (k .locks) (k .locks) r (λ i. refl) refl e
-
-    pub locked-at : (i now : ℕ) → r ≡ At i → ltb now (entry (k .untils) i) ≡ locked (securityOf k) level now
-    locked-at i now h = ap (λ (q : Found). holds now (rowOf (lockAt k) q)) (sym h) ∙ ap (holds now) (lock-found .row)
-
-    pub locked-not : (now : ℕ) → r ≡ Nothing → false ≡ locked (securityOf k) level now
-    locked-not now h = ap (λ (q : Found). holds now (rowOf (lockAt k) q)) (sym h) ∙ ap (holds now) (lock-found .row)
-
-    pub lock-below : (i : ℕ) → r ≡ At i → i < k .locks
-    lock-below i h = found-below (isKey level) (entry (k .«lock_levels»)) (k .locks) i (sym e ∙ ap placeOf h)
-
-  -- among the counts
-  module _ (e : placeOf r ≡ place (isKey level) (tab (entry (k .«failed_levels»)) 0 (k .failed))) where
-    pub failed-found : Finds (isFailed level) (failedAt k) (k .failed) r
-    failed-found = finds (isFailed level) (failedAt k) (isKey level) (entry (k .«failed_levels»)) (k .failed) (k .failed) r (λ i. refl) refl e
-
-    pub count-at : (i : ℕ) → r ≡ At i → entry (k .«failed_counts») i ≡ failedCount level (securityOf k .failed)
-    count-at i h = ap (λ (q : Found). countOf (rowOf (failedAt k) q)) (sym h) ∙ ap countOf (failed-found .row)
-
-    pub count-none : r ≡ Nothing → 0 ≡ failedCount level (securityOf k .failed)
-    count-none h = ap (λ (q : Found). countOf (rowOf (failedAt k) q)) (sym h) ∙ ap countOf (failed-found .row)
-
-    pub failed-below : (i : ℕ) → r ≡ At i → i < k .failed
-    failed-below i h = found-below (isKey level) (entry (k .«failed_levels»)) (k .failed) i (sym e ∙ ap placeOf h)
 
 -- an array with one entry set
 pub entry-same : (l : List ℕ) (i x : ℕ) → i < length l → entry (set l i x) i ≡ x
@@ -64,31 +32,9 @@ entry-same l i x h = getD-set-same l i x 0 h
 pub entry-other : (l : List ℕ) (i j x : ℕ) → (j ≡ i → ⊥) → entry (set l i x) j ≡ entry l j
 entry-other l i j x n = getD-set-other l i j x 0 n
 
--- counts and locks are alike: levels beside values, of which one pair is set
+-- levels beside values
 abbrev pub pairs : {B : Type 0} → (ℕ → ℕ → B) → List ℕ → List ℕ → ℕ → B
 pairs pair l v i = pair (entry l i) (entry v i)
-
-module _ {B : Type 0} (pair : ℕ → ℕ → B) (levels values : List ℕ) where
-  -- a pair at the end
-  pub pairs-more : (n level x : ℕ) → n < length levels → n < length values → tab (pairs pair (set levels n level) (set values n x)) 0 (n + 1) ≡ tab (pairs pair levels values) 0 n ++ (pair level x ∷ [])
-  pairs-more n level x a b =
-      tab-snoc (pairs pair (set levels n level) (set values n x)) n
-      ∙ ap₂ (λ (t : List B) (p : B). t ++ (p ∷ []))
-      (tab-same (pairs pair (set levels n level) (set values n x)) (pairs pair levels values) 0 n (λ i p q. ap₂ pair (entry-other levels n i level (omega arith)) (entry-other values n i x (omega arith))))
-      (ap₂ pair (entry-same levels n level a) (entry-same values n x b))
-
-  -- the value of a pair that is known
-  pub pair-set : (i x : ℕ) → i < length values → pairs pair levels (set values i x) i ≡ pair (entry levels i) x
-  pair-set i x h = ap (pair (entry levels i)) (entry-same values i x h)
-
-  pub pair-kept : (i j x : ℕ) → (j ≡ i → ⊥) → pairs pair levels (set values i x) j ≡ pairs pair levels values j
-  pair-kept i j x h = ap (pair (entry levels j)) (entry-other values i j x h)
-
--- an entry of a level that has none
-pub entered-new : {A : Type 0} (k : SecurityState) (with : List A → Security) (p : A → Bool) (change : A → A) (new : A) (l : List A) (a : Entered) → place p l ≡ none
-    → Enters k (Option·map with (added new l)) a → Enters k (Option·map with (enter maxLevels p change new l)) a
-unfolding enter
-entered-new k with p change new l a e f = record { answer = f .answer ∙ rw (any-none p l e); counts = f .counts; full = f .full }
 
 abbrev pub failedPair : ℕ → ℕ → Failed
 failedPair level count = record { level = level; count = count }
@@ -96,90 +42,114 @@ failedPair level count = record { level = level; count = count }
 abbrev pub lockPair : ℕ → ℕ → Lock
 lockPair level until = record { level = level; until = until }
 
-module _ (k : SecurityState) (level : ℕ) (c : Counts k) where
-  -- the first refused key, where there is room
-  pub failed-more : length (k .«failed_levels») ≡ 8 → length (k .«failed_counts») ≡ 8 → k .failed < 8
-      → Enters k (Option·map (withFailed (securityOf k)) (added (failedPair level 1) (securityOf k .failed))) (record { security = record { untils = k .untils; seed = k .seed; «failed_levels» = set (k .«failed_levels») (k .failed) level; «failed_counts» = set (k .«failed_counts») (k .failed) 1; «lock_levels» = k .«lock_levels»; «seed_len» = k .«seed_len»; «seed_level» = k .«seed_level»; failed = k .failed + 1; locks = k .locks }; room = true })
-  failed-more a b h = record {
-    answer = rw (tab-length (failedAt k) 0 (k .failed), lt-ltb (k .failed) 8 h) (ap (λ (f : List Failed). some (withFailed (securityOf k) f)) (pairs-more failedPair (k .«failed_levels») (k .«failed_counts») (k .failed) level 1 (omega arith) (omega arith)));
-    counts = record { failed = omega arith; locks = c .locks };
-    full = λ e. absurd (false≢true (sym e));
+-- what a search among levels tells: its count keeps to the list where something was found
+module _ (levels : List ℕ) (n level : ℕ) (r : Found) (e : placeOf r ≡ placed levels n level) where
+  here : n ≤ 8 → placeOf r ≡ place (isKey level) (tab (entry levels) 0 n)
+  here h = e ∙ rw (le-leb n 8 h)
+
+  nowhere : 8 < n → r ≡ Nothing
+  nowhere h = go r (e ∙ rw (lt-leb n 8 h))
+    where
+      go : (q : Found) → placeOf q ≡ none → q ≡ Nothing
+      go (At i) z = absurd (Option·some-ne-none i z)
+      go Nothing z = refl
+
+  pub keeps : (i : ℕ) → r ≡ At i → n ≤ 8
+  keeps i h = elim (decLe n 8) [ yes k ↦ k | no k ↦ absurd (Option·some-ne-none i (ap placeOf (sym h ∙ nowhere (omega arith)))) ]
+
+  pub inside : (i : ℕ) → r ≡ At i → i < 8
+  inside i h =
+      let k = keeps i h in
+      omega (arith, found (isKey level) (entry levels 0) (tab (entry levels) 0 n) i (sym (here k) ∙ ap placeOf h) .inside, tab-length (entry levels) 0 n)
+
+  module _ {B : Type 0} (p : B → Bool) (f : ℕ → B) (same : (i : ℕ) → p (f i) ≡ isKey level (entry levels i)) where
+    pub stands : n ≤ 8 → Finds p f n r
+    stands h = finds p f (isKey level) (entry levels) n n r same refl (here h)
+
+    -- what is said of the row, or of none
+    pub says : {A : Type 0} (say : Option B → A) (q : Found) → r ≡ q → say (rowOf f q) ≡ pick (leb n maxLevels) (say (first p (tab f 0 n))) (say none)
+    says say q h =
+        ap (λ (x : Found). say (rowOf f x)) (sym h)
+        ∙ elim (decLe n 8) [ yes k ↦ rw (le-leb n 8 k) (ap say (stands k .row)) | no k ↦ rw (lt-leb n 8 (omega arith)) (ap (λ (x : Found). say (rowOf f x)) (nowhere (omega arith))) ]
+
+-- an entry into a list: of a level that has none, at the end
+module _ {B : Type 0} (pair : ℕ → ℕ → B) (levels values : List ℕ) (n level : ℕ) (k : SecurityState) (with : List B → Security) where
+  abbrev rows : List B
+  rows = tab (pairs pair levels values) 0 n
+
+  pub first-full : (new : B) → 8 ≤ n → Enters k (Option·map with (added new rows)) (record { security = k; room = false })
+  first-full new h = record { answer = rw (tab-length (pairs pair levels values) 0 n, le-ltb n 8 h); counts = λ c. c; full = λ z. refl }
+
+  pub first-more : (x : ℕ) (next : SecurityState) → length levels ≡ 8 → length values ≡ 8 → n < 8 → securityOf next ≡ with (tab (pairs pair (set levels n level) (set values n x)) 0 (n + 1)) → (Counts k → Counts next)
+      → Enters k (Option·map with (added (pair level x) rows)) (record { security = next; room = true })
+  first-more x next a b h s c = record {
+    answer = rw (tab-length (pairs pair levels values) 0 n, lt-ltb n 8 h) (ap some (s ∙ ap with more));
+    counts = c;
+    full = λ z. absurd (false≢true (sym z));
   }
+    where
+      more : tab (pairs pair (set levels n level) (set values n x)) 0 (n + 1) ≡ rows ++ (pair level x ∷ [])
+      more =
+          tab-snoc (pairs pair (set levels n level) (set values n x)) n
+          ∙ ap₂ (λ (t : List B) (p : B). t ++ (p ∷ []))
+          (tab-same (pairs pair (set levels n level) (set values n x)) (pairs pair levels values) 0 n (λ i p q. ap₂ pair (entry-other levels n i level (omega arith)) (entry-other values n i x (omega arith))))
+          (ap₂ pair (entry-same levels n level (omega arith)) (entry-same values n x (omega arith)))
 
-  -- and where there is none
-  pub failed-full : 8 ≤ k .failed → Enters k (Option·map (withFailed (securityOf k)) (added (failedPair level 1) (securityOf k .failed))) (record { security = k; room = false })
-  failed-full h = record { answer = rw (tab-length (failedAt k) 0 (k .failed), le-ltb (k .failed) 8 h); counts = c; full = λ e. refl }
+  -- and of one that has, where it stands
+  module _ (r : Found) (e : placeOf r ≡ placed levels n level) (p : B → Bool) (same : (i : ℕ) → p (pairs pair levels values i) ≡ isKey level (entry levels i)) (change : B → B) (new : B) where
+    pub entered-first : (a : Entered) → r ≡ Nothing → Enters k (Option·map with (added new rows)) a → Enters k (pick (leb n maxLevels) (Option·map with (enter maxLevels p change new rows)) none) a
+    unfolding enter
+    entered-first a h f = record { answer = f .answer ∙ elim (decLe n 8) [ yes d ↦ known d | no d ↦ past (omega arith) ]; counts = f .counts; full = f .full }
+      where
+        known : n ≤ 8 → Option·map with (added new rows) ≡ pick (leb n maxLevels) (Option·map with (enter maxLevels p change new rows)) none
+        known d = rw (le-leb n 8 d, any-none p rows (sym (stands levels n level r e p (pairs pair levels values) same d .where-it-stands) ∙ ap placeOf h))
 
-  module _ (r : Found) (e : placeOf r ≡ place (isKey level) (tab (entry (k .«failed_levels»)) 0 (k .failed))) where
-    -- a refused key of a level that has no count
-    pub failed-new : (a : Entered) → r ≡ Nothing → Enters k (Option·map (withFailed (securityOf k)) (added (failedPair level 1) (securityOf k .failed))) a → Enters k (Option·map (withFailed (securityOf k)) (incrementFailed level (securityOf k .failed))) a
-    failed-new a h f = entered-new k (withFailed (securityOf k)) (isFailed level) raise (failedPair level 1) (securityOf k .failed) a (sym (failed-found k level r e .where-it-stands) ∙ ap placeOf h) f
+        past : 8 < n → Option·map with (added new rows) ≡ pick (leb n maxLevels) (Option·map with (enter maxLevels p change new rows)) none
+        past d = rw (lt-leb n 8 d, tab-length (pairs pair levels values) 0 n, le-ltb n 8 (omega arith))
 
-    -- and of one that has
-    pub failed-again : (i x : ℕ) → r ≡ At i → x ≡ min (entry (k .«failed_counts») i + 1) 255 → length (k .«failed_counts») ≡ 8
-        → Enters k (Option·map (withFailed (securityOf k)) (incrementFailed level (securityOf k .failed)))
-        (record { security = record { untils = k .untils; seed = k .seed; «failed_levels» = k .«failed_levels»; «failed_counts» = set (k .«failed_counts») i x; «lock_levels» = k .«lock_levels»; «seed_len» = k .«seed_len»; «seed_level» = k .«seed_level»; failed = k .failed; locks = k .locks }; room = true })
-    failed-again i x h w z =
-        let b = failed-below k level r e i h in
-        record {
-          answer = sym (ap (Option·map (withFailed (securityOf k)))
-              (enter-known (isFailed level) maxLevels raise (failedPair level 1) (failedAt k) (pairs failedPair (k .«failed_levels») (set (k .«failed_counts») i x)) (k .failed) i
-              (sym (failed-found k level r e .where-it-stands) ∙ ap placeOf h)
-              (ap (failedPair (entry (k .«failed_levels») i)) (entry-same (k .«failed_counts») i x (omega (arith, c .failed)) ∙ w))
-              (λ j q n. pair-kept failedPair (k .«failed_levels») (k .«failed_counts») i j x n)));
-          counts = record { failed = c .failed; locks = c .locks };
-          full = λ q. absurd (false≢true (sym q));
-        }
+    pub entered-again : (i x : ℕ) (next : SecurityState) → r ≡ At i → length values ≡ 8 → pair (entry levels i) x ≡ change (pairs pair levels values i) → securityOf next ≡ with (tab (pairs pair levels (set values i x)) 0 n) → (Counts k → Counts next)
+        → Enters k (pick (leb n maxLevels) (Option·map with (enter maxLevels p change new rows)) none) (record { security = next; room = true })
+    entered-again i x next h z w s c = record {
+      answer = rw (le-leb n 8 d) (ap some s ∙ sym (ap (Option·map with) (enter-known p maxLevels change new (pairs pair levels values) (pairs pair levels (set values i x)) n i at here other)));
+      counts = c;
+      full = λ q. absurd (false≢true (sym q));
+    }
+      where
+        d : n ≤ 8
+        d = keeps levels n level r e i h
 
-    -- a count set to 0
-    pub failed-none : r ≡ Nothing → Resets k level k
-    failed-none h = record { state = ap (withFailed (securityOf k)) (sym (change-none (isFailed level) forget (tab (failedAt k) 0 (k .failed)) (sym (failed-found k level r e .where-it-stands) ∙ ap placeOf h))); counts = c }
+        at : place p rows ≡ some i
+        at = sym (stands levels n level r e p (pairs pair levels values) same d .where-it-stands) ∙ ap placeOf h
 
-    pub failed-reset : (i : ℕ) → r ≡ At i → length (k .«failed_counts») ≡ 8
-        → Resets k level (record { untils = k .untils; seed = k .seed; «failed_levels» = k .«failed_levels»; «failed_counts» = set (k .«failed_counts») i 0; «lock_levels» = k .«lock_levels»; «seed_len» = k .«seed_len»; «seed_level» = k .«seed_level»; failed = k .failed; locks = k .locks })
-    failed-reset i h z =
-        let b = failed-below k level r e i h in
-        let o : 0 + i ≡ i = omega arith in
-        record {
-          state = sym (ap (withFailed (securityOf k))
-              (change-at (isFailed level) forget (failedAt k) (pairs failedPair (k .«failed_levels») (set (k .«failed_counts») i 0)) 0 (k .failed) i
-              (sym (failed-found k level r e .where-it-stands) ∙ ap placeOf h)
-              (rw o (ap (failedPair (entry (k .«failed_levels») i)) (entry-same (k .«failed_counts») i 0 (omega (arith, c .failed)))))
-              (λ j q p n. pair-kept failedPair (k .«failed_levels») (k .«failed_counts») i j 0 (λ w. n (w ∙ sym o)))));
-          counts = record { failed = c .failed; locks = c .locks };
-        }
+        here : pairs pair levels (set values i x) i ≡ change (pairs pair levels values i)
+        here = ap (pair (entry levels i)) (entry-same values i x (omega (arith, z, inside levels n level r e i h))) ∙ w
 
--- locks, in the same way
-module _ (k : SecurityState) (level until : ℕ) (c : Counts k) where
-  pub lock-more : length (k .«lock_levels») ≡ 8 → length (k .untils) ≡ 8 → k .locks < 8
-      → Enters k (Option·map (withLocks (securityOf k)) (added (lockPair level until) (securityOf k .locks))) (record { security = record { untils = set (k .untils) (k .locks) until; seed = k .seed; «failed_levels» = k .«failed_levels»; «failed_counts» = k .«failed_counts»; «lock_levels» = set (k .«lock_levels») (k .locks) level; «seed_len» = k .«seed_len»; «seed_level» = k .«seed_level»; failed = k .failed; locks = k .locks + 1 }; room = true })
-  lock-more a b h = record {
-    answer = rw (tab-length (lockAt k) 0 (k .locks), lt-ltb (k .locks) 8 h) (ap (λ (l : List Lock). some (withLocks (securityOf k) l)) (pairs-more lockPair (k .«lock_levels») (k .untils) (k .locks) level until (omega arith) (omega arith)));
-    counts = record { failed = c .failed; locks = omega arith };
-    full = λ e. absurd (false≢true (sym e));
-  }
+        other : (j : ℕ) → j < n → (j ≡ i → ⊥) → pairs pair levels (set values i x) j ≡ pairs pair levels values j
+        other j q n = ap (pair (entry levels j)) (entry-other values i j x n)
 
-  pub lock-full : 8 ≤ k .locks → Enters k (Option·map (withLocks (securityOf k)) (added (lockPair level until) (securityOf k .locks))) (record { security = k; room = false })
-  lock-full h = record { answer = rw (tab-length (lockAt k) 0 (k .locks), le-ltb (k .locks) 8 h); counts = c; full = λ e. refl }
+-- a count set to 0, if the level has one
+module _ (k : SecurityState) (level : ℕ) (r : Found) (e : placeOf r ≡ placed (k .«failed_levels») (k .failed) level) where
+  pub reset-none : r ≡ Nothing → Resets k level k
+  reset-none h = record { state = elim (decLe (k .failed) 8) [ yes d ↦ rw (le-leb (k .failed) 8 d) (kept d) | no d ↦ rw (lt-leb (k .failed) 8 (omega arith)) ]; counts = λ c. c }
+    where
+      kept : k .failed ≤ 8 → securityOf k ≡ withFailed (securityOf k) (changeFirst (isFailed level) forget (securityOf k .failed))
+      kept d = ap (withFailed (securityOf k)) (sym (change-none (isFailed level) forget (securityOf k .failed) (sym (stands (k .«failed_levels») (k .failed) level r e (isFailed level) (failedAt k) (λ i. refl) d .where-it-stands) ∙ ap placeOf h)))
 
-  module _ (r : Found) (e : placeOf r ≡ place (isKey level) (tab (entry (k .«lock_levels»)) 0 (k .locks))) where
-    pub lock-new : (a : Entered) → r ≡ Nothing → Enters k (Option·map (withLocks (securityOf k)) (added (lockPair level until) (securityOf k .locks))) a → Enters k (Option·map (withLocks (securityOf k)) (setLockout level until (securityOf k .locks))) a
-    lock-new a h f = entered-new k (withLocks (securityOf k)) (isLock level) (relock until) (lockPair level until) (securityOf k .locks) a (sym (lock-found k level r e .where-it-stands) ∙ ap placeOf h) f
+  pub reset-one : (i : ℕ) → r ≡ At i → length (k .«failed_counts») ≡ 8
+      → Resets k level (record { untils = k .untils; seed = k .seed; «failed_levels» = k .«failed_levels»; «failed_counts» = set (k .«failed_counts») i 0; «lock_levels» = k .«lock_levels»; «seed_len» = k .«seed_len»; «seed_level» = k .«seed_level»; failed = k .failed; locks = k .locks })
+  reset-one i h z = record { state = rw (le-leb (k .failed) 8 d) (sym (ap (withFailed (securityOf k)) changed)); counts = λ c. record { failed = c .failed; locks = c .locks } }
+    where
+      d : k .failed ≤ 8
+      d = keeps (k .«failed_levels») (k .failed) level r e i h
 
-    pub lock-again : (i : ℕ) → r ≡ At i → length (k .untils) ≡ 8
-        → Enters k (Option·map (withLocks (securityOf k)) (setLockout level until (securityOf k .locks)))
-        (record { security = record { untils = set (k .untils) i until; seed = k .seed; «failed_levels» = k .«failed_levels»; «failed_counts» = k .«failed_counts»; «lock_levels» = k .«lock_levels»; «seed_len» = k .«seed_len»; «seed_level» = k .«seed_level»; failed = k .failed; locks = k .locks }; room = true })
-    lock-again i h z =
-        let b = lock-below k level r e i h in
-        record {
-          answer = sym (ap (Option·map (withLocks (securityOf k)))
-              (enter-known (isLock level) maxLevels (relock until) (lockPair level until) (lockAt k) (pairs lockPair (k .«lock_levels») (set (k .untils) i until)) (k .locks) i
-              (sym (lock-found k level r e .where-it-stands) ∙ ap placeOf h)
-              (ap (lockPair (entry (k .«lock_levels») i)) (entry-same (k .untils) i until (omega (arith, c .locks))))
-              (λ j q n. pair-kept lockPair (k .«lock_levels») (k .untils) i j until n)));
-          counts = record { failed = c .failed; locks = c .locks };
-          full = λ q. absurd (false≢true (sym q));
-        }
+      o : 0 + i ≡ i
+      o = omega arith
+
+      changed : changeFirst (isFailed level) forget (tab (failedAt k) 0 (k .failed)) ≡ tab (pairs failedPair (k .«failed_levels») (set (k .«failed_counts») i 0)) 0 (k .failed)
+      changed = change-at (isFailed level) forget (failedAt k) (pairs failedPair (k .«failed_levels») (set (k .«failed_counts») i 0)) 0 (k .failed) i
+          (sym (stands (k .«failed_levels») (k .failed) level r e (isFailed level) (failedAt k) (λ i. refl) d .where-it-stands) ∙ ap placeOf h)
+          (rw o (ap (failedPair (entry (k .«failed_levels») i)) (entry-same (k .«failed_counts») i 0 (omega (arith, z, inside (k .«failed_levels») (k .failed) level r e i h)))))
+          (λ j q p n. ap (failedPair (entry (k .«failed_levels») j)) (entry-other (k .«failed_counts») i j 0 (λ w. n (w ∙ sym o))))
 
 -- a seed copied byte by byte
 pub fill-turn : (bytes seed : List ℕ) (i : ℕ) → tab (entry bytes) 0 i ≡ take i seed → i < length seed → i < length bytes → tab (entry (set bytes i (entry seed i))) 0 (i + 1) ≡ take (i + 1) seed

@@ -6,7 +6,7 @@ use mathlib.Core.List.{List, [], _∷_, _++_}
 use mathlib.Core.Option.{Option, some, none}
 use lib.ListN.{length, getD, replicate}
 use lib.Dec.{leb, ltb}
-use Rattle.model.specs.Tests.{pick, changeFirst}
+use Rattle.model.specs.Tests.{pick, place, changeFirst}
 use Rattle.model.specs.Numbers.{maxFrame, maxLevels, maxSeed}
 use Rattle.model.specs.State as Model
 use Rattle.model.specs.Drain as Drain
@@ -14,7 +14,7 @@ use Rattle.model.specs.State.{Failed, Lock, Security, Session, cleared}
 use Rattle.model.specs.Reply.{replied}
 use Rattle.model.specs.Service as Rules
 use Rattle.model.specs.Service27.{isFailed, forget, seeded}
-use Rattle.uds.specs.Table.{tab}
+use Rattle.uds.specs.Table.{tab, isKey}
 use Rattle.config.specs.View.{configOf}
 use Rattle.queue.specs.Model.{readied}
 use Rattle.queue.specs.View.{queueOf, replyOf, modeOf}
@@ -65,6 +65,10 @@ withFailed k f = record { seed = k .seed; seedLevel = k .seedLevel; failed = f; 
 abbrev pub withLocks : Security → List Lock → Security
 withLocks k l = record { seed = k .seed; seedLevel = k .seedLevel; failed = k .failed; locks = l }
 
+-- where a level stands among the first n, if a list has so many
+abbrev pub placed : List ℕ → ℕ → ℕ → Option ℕ
+placed levels n level = pick (leb n maxLevels) (place (isKey level) (tab (entry levels) 0 n)) none
+
 -- an entry, if there was room for it
 abbrev pub enteredOf : Entered → Option Security
 enteredOf r = pick (r .room) (some (securityOf (r .security))) none
@@ -76,13 +80,13 @@ added x l = pick (ltb (length l) maxLevels) (some (l ++ (x ∷ []))) none
 -- and where there was none, the state as it was
 pub record Enters (k : SecurityState) (o : Option Security) (r : Entered) : Type 0 where
   pub answer : enteredOf r ≡ o
-  pub counts : Counts (r .security)
+  pub counts : Counts k → Counts (r .security)
   pub full : r .room ≡ false → r .security ≡ k
 
 -- the count of a level set to 0, if it has one
 pub record Resets (k : SecurityState) (level : ℕ) (r : SecurityState) : Type 0 where
-  pub state : securityOf r ≡ withFailed (securityOf k) (changeFirst (isFailed level) forget (securityOf k .failed))
-  pub counts : Counts r
+  pub state : securityOf r ≡ pick (leb (k .failed) maxLevels) (withFailed (securityOf k) (changeFirst (isFailed level) forget (securityOf k .failed))) (securityOf k)
+  pub counts : Counts k → Counts r
 
 -- no seed awaits its key, and no byte of it is left
 pub record Clears (k r : SecurityState) : Type 0 where

@@ -1,13 +1,16 @@
 // Security access: the seed that awaits its key, and for each level how many keys were refused and until when it is locked.
 ghost use mathlib.Core.Path.{_≡_};
 ghost use Prim.Native.Nat.{_≤_, _+_, min};
-ghost use mathlib.Core.Option.{Option·map};
+ghost use mathlib.Core.Bool.{false};
+ghost use mathlib.Core.Option.{none, Option·map};
+ghost use lib.Dec.{leb};
+ghost use Rattle.model.specs.Numbers.{maxLevels};
 ghost use lib.ListN.{length};
-ghost use Rattle.model.specs.Tests.{place, all};
+ghost use Rattle.model.specs.Tests.{pick, all};
 ghost use Rattle.model.specs.State as Model;
 ghost use Rattle.model.specs.Service27 as Rules;
-ghost use Rattle.uds.specs.Table.{tab, isKey, placeOf};
-ghost use Rattle.server.specs.View.{entry, securityOf, withFailed, withLocks, added, Counts, Clears, Seeds, Enters, Resets};
+ghost use Rattle.uds.specs.Table.{tab, placeOf};
+ghost use Rattle.server.specs.View.{entry, placed, securityOf, withFailed, withLocks, added, Clears, Seeds, Enters, Resets};
 use uds::clock::Instant;
 use uds::table::Found;
 
@@ -45,11 +48,13 @@ fn raised(count: u8) -> u8
     count + 1
 }
 
-// Where a level stands among the first `n`.
-pub(crate) fn find_level(levels: &[u8; 8], n: u8, level: u8) -> Found
-    requires { ⌜ n ≤ 8 ⌝ }
-    ensures { λ r. ⌜ placeOf r ≡ place (isKey level) (tab (entry (now (levels .entry))) 0 n) ⌝ }
+// Where a level stands among the first `n`: nowhere where a list has no so many.
+fn find_level(levels: &[u8; 8], n: u8, level: u8) -> Found
+    ensures { λ r. ⌜ placeOf r ≡ placed (now (levels .entry)) n level ⌝ }
 {
+    if 8 < n {
+        return Found::Nothing;
+    }
     let rows = n as usize;
     let mut i: usize = 0;
     while i < rows {
@@ -111,9 +116,8 @@ impl SecurityState {
     }
 
     // Locked means that now is before the lock's end.
-    pub(crate) fn is_locked(self, level: u8, now: Instant) -> bool
-        requires { ⌜ Counts self ⌝ }
-        ensures { λ r. ⌜ r ≡ Rules.locked (securityOf self) level (now .0) ⌝ }
+    pub fn is_locked(self, level: u8, now: Instant) -> bool
+        ensures { λ r. ⌜ r ≡ pick (leb (self .locks) maxLevels) (Rules.locked (securityOf self) level (now .0)) false ⌝ }
     {
         let levels = self.lock_levels;
         let Found::At(i) = find_level(&levels, self.locks, level) else {
@@ -124,9 +128,8 @@ impl SecurityState {
     }
 
     // How many keys of the level were refused: none where it has no count.
-    pub(crate) fn failed_count(self, level: u8) -> u8
-        requires { ⌜ Counts self ⌝ }
-        ensures { λ r. ⌜ r ≡ Rules.failedCount level (securityOf self .failed) ⌝ }
+    pub fn failed_count(self, level: u8) -> u8
+        ensures { λ r. ⌜ r ≡ pick (leb (self .failed) maxLevels) (Rules.failedCount level (securityOf self .failed)) 0 ⌝ }
     {
         let levels = self.failed_levels;
         let Found::At(i) = find_level(&levels, self.failed, level) else {
@@ -137,7 +140,7 @@ impl SecurityState {
     }
 
     // The seed is overwritten, not only shortened.
-    pub(crate) fn clear_pending(self) -> SecurityState
+    pub fn clear_pending(self) -> SecurityState
         ensures { λ r. ⌜ Clears self r ⌝ }
     {
         let mut next = self;
@@ -148,7 +151,7 @@ impl SecurityState {
     }
 
     // A seed of at most 32 bytes that awaits its key; a longer one leaves none.
-    pub(crate) fn seeded(self, level: u8, seed: &[u8]) -> SecurityState
+    pub fn seeded(self, level: u8, seed: &[u8]) -> SecurityState
         ensures { λ r. ⌜ Seeds self level (now (seed .entry)) r ⌝ }
     {
         let mut next = self.clear_pending();
@@ -164,9 +167,8 @@ impl SecurityState {
     }
 
     // One more refused key of the level, if the list has room.
-    pub(crate) fn increment_failed(self, level: u8) -> Entered
-        requires { ⌜ Counts self ⌝ }
-        ensures { λ r. ⌜ Enters self (Option·map (withFailed (securityOf self)) (Rules.incrementFailed level (securityOf self .failed))) r ⌝ }
+    pub fn increment_failed(self, level: u8) -> Entered
+        ensures { λ r. ⌜ Enters self (pick (leb (self .failed) maxLevels) (Option·map (withFailed (securityOf self)) (Rules.incrementFailed level (securityOf self .failed))) none) r ⌝ }
     {
         let levels = self.failed_levels;
         let Found::At(i) = find_level(&levels, self.failed, level) else {
@@ -183,7 +185,6 @@ impl SecurityState {
 
     // The first refused key of a level.
     fn first_failed(self, level: u8) -> Entered
-        requires { ⌜ Counts self ⌝ }
         ensures { λ r. ⌜ Enters self (Option·map (withFailed (securityOf self)) (added (record { level = level; count = 1 }) (securityOf self .failed))) r ⌝ }
     {
         let n = self.failed;
@@ -205,8 +206,7 @@ impl SecurityState {
     }
 
     // No refused key is counted any more; a level that has no count gets none.
-    pub(crate) fn reset_failed(self, level: u8) -> SecurityState
-        requires { ⌜ Counts self ⌝ }
+    pub fn reset_failed(self, level: u8) -> SecurityState
         ensures { λ r. ⌜ Resets self level r ⌝ }
     {
         let levels = self.failed_levels;
@@ -219,9 +219,8 @@ impl SecurityState {
     }
 
     // Locked until a moment, if the list has room.
-    pub(crate) fn set_lockout(self, level: u8, until: Instant) -> Entered
-        requires { ⌜ Counts self ⌝ }
-        ensures { λ r. ⌜ Enters self (Option·map (withLocks (securityOf self)) (Rules.setLockout level (until .0) (securityOf self .locks))) r ⌝ }
+    pub fn set_lockout(self, level: u8, until: Instant) -> Entered
+        ensures { λ r. ⌜ Enters self (pick (leb (self .locks) maxLevels) (Option·map (withLocks (securityOf self)) (Rules.setLockout level (until .0) (securityOf self .locks))) none) r ⌝ }
     {
         let levels = self.lock_levels;
         let Found::At(i) = find_level(&levels, self.locks, level) else {
@@ -237,7 +236,6 @@ impl SecurityState {
 
     // The first lock of a level.
     fn first_lock(self, level: u8, until: Instant) -> Entered
-        requires { ⌜ Counts self ⌝ }
         ensures { λ r. ⌜ Enters self (Option·map (withLocks (securityOf self)) (added (record { level = level; until = until .0 }) (securityOf self .locks))) r ⌝ }
     {
         let n = self.locks;

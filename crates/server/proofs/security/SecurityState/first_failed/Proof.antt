@@ -1,13 +1,16 @@
-use lib.ListN.{length}
-use mathlib.Core.Path.{_≡_}
+use mathlib.Core.Path.{_≡_, refl}
 use native.Mathlib.Omega.{arith}
-use Rattle.server.proofs.Levels.{failed-more, failed-full}
+use lib.ListN.{length}
 use borrow.Author.Needs.{needs}
+use Rattle.server.specs.View.{securityOf, withFailed}
+use Rattle.server.proofs.Levels.{failedPair, first-full, first-more}
 use Rattle.server.proofs.security.SecurityState.first_failed.Statement.{statement}
 use Rattle.server.proofs.security.SecurityState.first_failed.Tie as tie
 
 returns : tie.Need-returns
-returns c = let a = c .before .args in failed-full (a .self) (a .level) (c .before .pre) (omega arith)
+returns c =
+    let k = c .before .args .self in
+    first-full failedPair (k .«failed_levels») (k .«failed_counts») (k .failed) (c .before .args .level) k (withFailed (securityOf k)) _ (omega arith)
 
 cast-at : tie.Need-cast-at
 cast-at c = search needs
@@ -22,11 +25,13 @@ add-next : tie.Need-add-next
 add-next c = search needs
 
 returns-2 : tie.Need-returns-2
-returns-2 c = let a = c .before .args in
-    let x : length (a .self .«failed_levels») ≡ 8 = search needs in
-    let y : length (a .self .«failed_counts») ≡ 8 = search needs in
-    failed-more (a .self) (a .level) (c .before .pre) x y (omega arith)
+returns-2 c =
+    let k = c .before .args .self in
+    let x : length (k .«failed_levels») ≡ 8 = search needs in
+    let y : length (k .«failed_counts») ≡ 8 = search needs in
+    first-more failedPair (k .«failed_levels») (k .«failed_counts») (k .failed) (c .before .args .level) k (withFailed (securityOf k)) 1 _ x y (omega arith) refl (λ z. record { failed = omega arith; locks = z .locks })
 
 pub first-failed-spec : {M : Type 1} → statement M
 first-failed-spec =
-    tie.close (tie.spec returns cast-at element-write-next element-write-next-2 add-next returns-2)
+    tie.close
+    (tie.spec returns cast-at element-write-next element-write-next-2 add-next returns-2)

@@ -1,9 +1,20 @@
-use borrow.Author.Needs.{needs}
+use mathlib.Core.Path.{refl, _∙_}
+use Prim.Native.Nat.{_<_}
 use native.Mathlib.Omega.{arith}
-use mathlib.Core.Path.{_∙_}
-use Rattle.server.proofs.Levels.{locked-at, locked-not, lock-below}
+use borrow.Author.Needs.{needs}
+use Rattle.model.specs.Service27.{isLock, holds}
+use Rattle.uds.specs.declared.table.Found.the-variants.{At, Nothing}
+use Rattle.server.specs.View.{entry, lockAt}
+use Rattle.server.proofs.Levels.{inside, says}
 use Rattle.server.proofs.security.SecurityState.is_locked.Statement.{statement}
 use Rattle.server.proofs.security.SecurityState.is_locked.Tie as tie
+
+-- the entry that was found stands in its array
+found : (c : tie.After-known-told) → c .before .i .given .0 .0 < 8
+found c =
+    let s = c .before .before .before .before .before .before in
+    let r = c .before .before .before .find-level in
+    inside (s .args .self .«lock_levels») (s .args .self .locks) (s .args .level) (r .result) (r .ensures) (c .before .i .given .0 .0) (c .before .i .given .1)
 
 find-level-requires : tie.Need-find-level-requires
 find-level-requires c κs = search needs
@@ -15,19 +26,19 @@ enum-told : tie.Need-enum-told
 enum-told c = search needs
 
 returns : tie.Need-returns
-returns c = let a = c .before .before .before .before .before .args in locked-not (a .self) (a .level) (c .before .before .find-level .result) (c .before .before .find-level .ensures) (a .now .0) (c .enum-told .given .1)
+returns c = let k = c .before .before .before .before .before .args .self in says (k .«lock_levels») (k .locks) (c .before .before .before .before .before .args .level) (c .before .before .find-level .result) (c .before .before .find-level .ensures) (isLock (c .before .before .before .before .before .args .level)) (lockAt k) (λ i. refl) (holds (c .before .before .before .before .before .args .now .0)) Nothing (c .enum-told .given .1)
 
 mul-t9 : tie.Need-mul-t9
-mul-t9 c = let a = c .before .before .before .before .before .before .before .args in omega (arith, lock-below (a .self) (a .level) (c .before .before .before .before .find-level .result) (c .before .before .before .before .find-level .ensures) (c .before .before .i .given .0 .0) (c .before .before .i .given .1), c .before .before .before .before .before .before .before .pre)
+mul-t9 c = omega (arith, found (c .before))
 
 array-read-t12 : tie.Need-array-read-t12
-array-read-t12 c = let a = c .before .before .before .before .before .before .before .args in omega (arith, lock-below (a .self) (a .level) (c .before .before .before .before .find-level .result) (c .before .before .before .before .find-level .ensures) (c .before .before .i .given .0 .0) (c .before .before .i .given .1), c .before .before .before .before .before .before .before .pre)
+array-read-t12 c = omega (arith, found (c .before))
 
 is-before-requires : tie.Need-is-before-requires
 is-before-requires c κs = search needs
 
 returns-2 : tie.Need-returns-2
-returns-2 c = let a = c .before .before .before .before .before .before .before .before .args in c .is-before .ensures ∙ locked-at (a .self) (a .level) (c .before .before .before .before .before .find-level .result) (c .before .before .before .before .before .find-level .ensures) (c .before .before .before .i .given .0 .0) (a .now .0) (c .before .before .before .i .given .1)
+returns-2 c = let k = c .before .before .before .before .before .before .before .before .args .self in c .is-before .ensures ∙ says (k .«lock_levels») (k .locks) (c .before .before .before .before .before .before .before .before .args .level) (c .before .before .before .before .before .find-level .result) (c .before .before .before .before .before .find-level .ensures) (isLock (c .before .before .before .before .before .before .before .before .args .level)) (lockAt k) (λ i. refl) (holds (c .before .before .before .before .before .before .before .before .args .now .0)) (At (c .before .before .before .i .given .0 .0)) (c .before .before .before .i .given .1)
 
 pub is-locked-spec : {M : Type 1} → statement M
 is-locked-spec =

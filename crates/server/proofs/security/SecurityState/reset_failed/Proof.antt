@@ -1,10 +1,19 @@
-use lib.ListN.{length}
 use mathlib.Core.Path.{_≡_}
+use Prim.Native.Nat.{_<_}
 use native.Mathlib.Omega.{arith}
-use Rattle.server.proofs.Levels.{failed-below, failed-none, failed-reset}
+use lib.ListN.{length}
 use borrow.Author.Needs.{needs}
+use Rattle.server.specs.View.{entry}
+use Rattle.server.proofs.Levels.{inside, reset-none, reset-one}
 use Rattle.server.proofs.security.SecurityState.reset_failed.Statement.{statement}
 use Rattle.server.proofs.security.SecurityState.reset_failed.Tie as tie
+
+-- the entry that was found stands in its array
+found : (c : tie.After-known-told) → c .before .i .given .0 .0 < 8
+found c =
+    let s = c .before .before .before .before .before .before in
+    let r = c .before .before .before .find-level in
+    inside (s .args .self .«failed_levels») (s .args .self .failed) (s .args .level) (r .result) (r .ensures) (c .before .i .given .0 .0) (c .before .i .given .1)
 
 find-level-requires : tie.Need-find-level-requires
 find-level-requires c κs = search needs
@@ -16,15 +25,15 @@ enum-told : tie.Need-enum-told
 enum-told c = search needs
 
 returns : tie.Need-returns
-returns c = let a = c .before .before .before .before .before .args in failed-none (a .self) (a .level) (c .before .before .before .before .before .pre) (c .before .before .find-level .result) (c .before .before .find-level .ensures) (c .enum-told .given .1)
+returns c = reset-none (c .before .before .before .before .before .args .self) (c .before .before .before .before .before .args .level) (c .before .before .find-level .result) (c .before .before .find-level .ensures) (c .enum-told .given .1)
 
 element-write-next : tie.Need-element-write-next
-element-write-next c = let a = c .before .before .before .before .before .before .args in omega (arith, failed-below (a .self) (a .level) (c .before .before .before .find-level .result) (c .before .before .before .find-level .ensures) (c .before .i .given .0 .0) (c .before .i .given .1), c .before .before .before .before .before .before .pre)
+element-write-next c = omega (arith, found c)
 
 returns-2 : tie.Need-returns-2
-returns-2 c = let a = c .before .before .before .before .before .before .args in
-    let z : length (a .self .«failed_counts») ≡ 8 = search needs in
-    failed-reset (a .self) (a .level) (c .before .before .before .before .before .before .pre) (c .before .before .before .find-level .result) (c .before .before .before .find-level .ensures) (c .before .i .given .0 .0) (c .before .i .given .1) z
+returns-2 c = let k = c .before .before .before .before .before .before .args .self in
+    let z : length (k .«failed_counts») ≡ 8 = search needs in
+    reset-one k (c .before .before .before .before .before .before .args .level) (c .before .before .before .find-level .result) (c .before .before .before .find-level .ensures) (c .before .i .given .0 .0) (c .before .i .given .1) z
 
 pub reset-failed-spec : {M : Type 1} → statement M
 reset-failed-spec =
