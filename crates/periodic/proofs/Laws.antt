@@ -17,10 +17,11 @@ use Rattle.model.proofs.Laws.{left, right}
 use Rattle.uds.specs.declared.table.Found.{Found}
 use Rattle.uds.specs.declared.table.Found.the-variants.{At, Nothing}
 use Rattle.uds.specs.Table.{tab, placeOf}
-use Rattle.uds.specs.Clock.{later}
+use Rattle.uds.specs.Clock.{later, starts}
+use Rattle.uds.proofs.Times.{in-time}
 use Rattle.uds.proofs.Tab.{tab-same, tab-length}
 use Rattle.periodic.specs.declared.Registered.the-variants.{Stands, Full}
-use Rattle.periodic.specs.View.{entryAt, tableOf, starts, advancedAt, Puts, Registers, Cancels, Advances}
+use Rattle.periodic.specs.View.{entryAt, tableOf, advancedAt, Puts, Registers, Cancels, Advances}
 use Rattle.uds.proofs.Tables.{passing, enter-known, enter-new, enter-full}
 
 -- where a found entry stands
@@ -41,10 +42,6 @@ not-full n e = let z : _≡_ {A = ℕ} 0 1 = cc in omega arith
 -- the entry that is put
 abbrev entered : ℕ → ℕ → ℕ → ℕ → Subscription
 entered x client interval next = record { identifier = x; client = client; interval = interval; next = next }
-
--- its moment is the interval later than where it starts
-in-time : (t interval next : ℕ) → interval < 2 ^ 64 → next ≡ later t interval → next ≡ starts t interval + interval
-in-time t interval next fits late = omega arith
 
 -- an entry that passes the test has the identifier and the client
 is-it : (x client : ℕ) (e : Subscription) → isSubscription x client e ≡ true → (e .identifier ≡ x) × (e .client ≡ client)

@@ -15,13 +15,10 @@ use Rattle.model.specs.Tick.{advanced}
 use Rattle.model.proofs.Laws.{left, right, within-length, within-all}
 use Rattle.uds.specs.Table.{tab}
 use Rattle.uds.specs.Clock.{lastMoment}
+use Rattle.uds.proofs.Times.{on-the-clock}
 use Rattle.uds.proofs.Tab.{tab-length}
 use Rattle.periodic.specs.declared.Registered.{Registered}
-use Rattle.periodic.specs.View.{entryAt, tableOf, starts, leftBy, Registers, Advances}
-
--- an interval that ends on the clock starts where it starts
-pub on-the-clock : (t : Moment) (interval : Span) → t + interval ≤ lastMoment → starts t interval ≡ t
-on-the-clock t interval h = omega arith
+use Rattle.periodic.specs.View.{entryAt, tableOf, leftBy, Registers, Advances}
 
 -- registering and advancing are then the definition's, word for word
 pub registers : {before after : List ℕ} {count x client : ℕ} {interval : Span} {t : Moment} {r : Registered} → Registers before count x client interval t r after → count ≤ maxPeriodic → t + interval ≤ lastMoment

@@ -1,5 +1,5 @@
 -- The subscription table as lent words, seen as the definition's list, and what each function leaves of it.
-use Prim.Native.Nat.{ℕ, _+_, _-_, _*_, _%_, _^_, _≤_, _<_, min}
+use Prim.Native.Nat.{ℕ, _+_, _-_, _*_, _%_, _^_, _≤_, _<_}
 use mathlib.Core.Path.{_≡_}
 use mathlib.Core.Bool.{Bool, _&&_}
 use mathlib.Core.List.{List}
@@ -12,7 +12,7 @@ use Rattle.model.specs.State.{Subscription}
 use Rattle.model.specs.Service2A.{isSubscription, register}
 use Rattle.model.specs.Tick.{advanced}
 use Rattle.uds.specs.Table.{tab}
-use Rattle.uds.specs.Clock.{lastMoment}
+use Rattle.uds.specs.Clock.{starts}
 use Rattle.periodic.specs.declared.PeriodicEntry.{PeriodicEntry}
 use Rattle.periodic.specs.declared.Registered.{Registered}
 use Rattle.periodic.specs.declared.Registered.the-variants.{Stands, Full}
@@ -32,10 +32,6 @@ tableOf count w = tab (entryAt w) 0 count
 -- an entry by value
 abbrev pub entryOf : PeriodicEntry → Subscription
 entryOf e = record { identifier = e .identifier; client = e .client; interval = e .interval .0; next = e .next .0 }
-
--- a moment from which the interval would pass the last moment counts as the last one from which it does not
-abbrev pub starts : Moment → Span → Moment
-starts t interval = min t (lastMoment - interval)
 
 -- an entry is put in its place, and the others are as they were
 pub record Puts (before : List ℕ) (i : ℕ) (e : Subscription) (after : List ℕ) : Type 0 where

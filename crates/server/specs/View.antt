@@ -7,13 +7,15 @@ use mathlib.Core.Option.{Option, some, none}
 use lib.ListN.{length, getD, replicate}
 use lib.Dec.{leb, ltb}
 use Rattle.model.specs.Tests.{pick, place, changeFirst}
-use Rattle.model.specs.Numbers.{maxFrame, maxLevels, maxSeed}
+use Rattle.model.specs.Numbers.{Moment, maxFrame, maxLevels, maxSeed}
+use Rattle.model.specs.Config.{findSession, p2ExtOf}
 use Rattle.model.specs.State as Model
 use Rattle.model.specs.Drain as Drain
 use Rattle.model.specs.State.{Failed, Lock, Security, Session, cleared}
 use Rattle.model.specs.Reply.{replied}
 use Rattle.model.specs.Service as Rules
 use Rattle.model.specs.Service27.{isFailed, forget, seeded}
+use Rattle.uds.specs.Clock.{starts}
 use Rattle.uds.specs.Table.{tab, isKey}
 use Rattle.config.specs.View.{configOf}
 use Rattle.queue.specs.Model.{readied}
@@ -125,7 +127,12 @@ effectOf e subs count room = record { session = sessionOf (e .session); security
 -- the three records taken into the state, whatever is lent
 pub record Changes (s : State) (e : Effect) (r : State) : Type 0 where
   pub state : (config subs heads room : List ℕ) (count : ℕ) → stateOf config r subs heads room ≡ Rules.changed (stateOf config s subs heads room) (effectOf e subs count room)
+  pub session : r .session ≡ e .session
   pub frames : r .frames ≡ s .frames
+
+-- when a reply is made: now, but that 0x78 falls due again on the clock
+abbrev pub madeAt : List ℕ → SessionState → Moment → Moment
+madeAt config a t = starts t (p2ExtOf (findSession (configOf config) (a .«session_type»)))
 
 abbrev pub pendsOf : Reply → Bool
 pendsOf Silent = false
@@ -136,15 +143,15 @@ pendsOf Pends = true
 
 -- a request that becomes pending is so before it says 0x78
 pub record Readies (config : List ℕ) (s : State) (to sid t : ℕ) (reply : Reply) (r : State) : Type 0 where
-  pub state : (subs heads room : List ℕ) (count : ℕ) → stateOf config r subs heads room ≡ readied (stateOf config s subs heads room) to sid t (replyOf reply count room)
+  pub state : (subs heads room : List ℕ) (count : ℕ) → stateOf config r subs heads room ≡ readied (stateOf config s subs heads room) to sid (madeAt config (s .session) t) (replyOf reply count room)
 
 -- a reply carried out, whatever the subscriptions
 pub record Replies (config : List ℕ) (s : State) (heads room : List ℕ) (to sid t : ℕ) (reply : Reply) (r : Answer) (heads' room' : List ℕ) : Type 0 where
-  pub step : (subs : List ℕ) → stepOf config r subs heads' room' ≡ replied maxFrame (stateOf config s subs heads room) to sid t (replyOf reply (s .frames) room)
+  pub step : (subs : List ℕ) → stepOf config r subs heads' room' ≡ replied maxFrame (stateOf config s subs heads room) to sid (madeAt config (s .session) t) (replyOf reply (s .frames) room)
 
--- an effect carried out, whatever the subscriptions
+-- an effect carried out, whatever the subscriptions; its reply is made in the session that it opens, unless the change waits
 pub record Applies (config : List ℕ) (s : State) (heads room : List ℕ) (to sid t : ℕ) (e : Effect) (r : Answer) (heads' room' : List ℕ) : Type 0 where
-  pub step : (subs : List ℕ) → stepOf config r subs heads' room' ≡ Rules.apply maxFrame (stateOf config s subs heads room) to sid t (effectOf e subs (s .frames) room)
+  pub step : (subs : List ℕ) → stepOf config r subs heads' room' ≡ Rules.apply maxFrame (stateOf config s subs heads room) to sid (madeAt config (pick (e .waits) (s .session) (e .session)) t) (effectOf e subs (s .frames) room)
 
 -- the server that holds its arrays
 abbrev pub serverOf : Server → Model.State

@@ -1,11 +1,5 @@
 // A service says what it wants, and one function carries it out.
 ghost use mathlib.Core.Path.{_≡_};
-ghost use mathlib.Core.Bool.{true};
-ghost use mathlib.Core.List.{List};
-ghost use Prim.Native.Nat.{ℕ, _≤_};
-ghost use Rattle.model.specs.Numbers.{maxTime};
-ghost use Rattle.model.specs.Config.{within};
-ghost use Rattle.config.specs.View.{configOf};
 ghost use Rattle.server.specs.View.{pendsOf, Changes, Readies, Replies, Applies};
 use super::security::SecurityState;
 use super::state::PendingRequest;
@@ -62,9 +56,8 @@ fn pends(reply: Reply) -> bool
     }
 }
 
-// A request that becomes pending is so before it says 0x78; its deadline is now plus P2* of the session.
+// A request that becomes pending is so before it says 0x78; its deadline is now plus P2* of the session, or the clock's end.
 fn readied(config: &Config, s: State, to: u32, sid: u8, t: Instant, reply: Reply) -> State
-    requires { ⌜ (within (configOf (now config)) ≡ true) × (t .0 ≤ maxTime) ⌝ }
     ensures { λ r. ⌜ Readies (now (config .entry)) s to sid (t .0) reply r ⌝ }
 {
     if !pends(reply) {
@@ -85,7 +78,7 @@ fn readied(config: &Config, s: State, to: u32, sid: u8, t: Instant, reply: Reply
 }
 
 // A reply, to whom, for which service, when.
-pub(crate) fn replied(
+pub fn replied(
     config: &Config,
     s: State,
     heads: &mut Heads,
@@ -95,7 +88,6 @@ pub(crate) fn replied(
     t: Instant,
     reply: Reply,
 ) -> Answer
-    requires { ⌜ (within (configOf (now config)) ≡ true) × (t .0 ≤ maxTime) ⌝ }
     ensures { λ r. ⌜ Replies (now (config .entry)) s (now (heads .entry)) (now (room .entry)) to sid (t .0) reply r (now (heads .exit)) (now (room .exit)) ⌝ }
 {
     let mut next = readied(config, s, to, sid, t, reply);
@@ -108,7 +100,7 @@ pub(crate) fn replied(
 }
 
 // The change and then the reply; or the reply and then the change, if that was queued.
-pub(crate) fn apply(
+pub fn apply(
     config: &Config,
     s: State,
     heads: &mut Heads,
@@ -118,7 +110,6 @@ pub(crate) fn apply(
     t: Instant,
     e: Effect,
 ) -> Answer
-    requires { ⌜ (within (configOf (now config)) ≡ true) × (t .0 ≤ maxTime) ⌝ }
     ensures { λ r. ⌜ Applies (now (config .entry)) s (now (heads .entry)) (now (room .entry)) to sid (t .0) e r (now (heads .exit)) (now (room .exit)) ⌝ }
 {
     let reply = e.reply;

@@ -4,3 +4,4 @@ pub mod Tab
 pub mod Tables
 pub mod Readings
 pub mod Paste
+pub mod Times

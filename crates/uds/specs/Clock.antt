@@ -10,6 +10,10 @@ lastMoment = 2 ^ 64 - 1
 abbrev pub later : Moment → Span → Moment
 later t d = min (t + d) lastMoment
 
+-- a moment from which a span would pass the last moment counts as the last one from which it does not
+abbrev pub starts : Moment → Span → Moment
+starts t d = min t (lastMoment - d)
+
 -- the larger of two spans
 abbrev pub larger : Span → Span → Span
 larger a b = max a b

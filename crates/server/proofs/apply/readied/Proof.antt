@@ -2,8 +2,7 @@ use mathlib.Core.Path.{sym, ap, _∙_}
 use denote.Ref.{now}
 use borrow.Author.Tests.{not-true, not-false}
 use Rattle.model.specs.Config.{p2ExtOf}
-use Rattle.server.specs.View.{stateOf}
-use Rattle.server.proofs.Applied.{not-pending, pending-set}
+use Rattle.server.proofs.Applied.{not-readied, pending-set}
 use borrow.Author.Needs.{needs}
 use Rattle.server.proofs.apply.readied.Statement.{statement}
 use Rattle.server.proofs.apply.readied.Tie as tie
@@ -12,7 +11,7 @@ pends-requires : tie.Need-pends-requires
 pends-requires c κs = search needs
 
 returns : tie.Need-returns
-returns c = let a = c .before .before .args in record { state = λ subs heads room count. not-pending (stateOf (now (a .config)) (a .s) subs heads room) (a .to) (a .sid) (a .t .0) count room (a .reply) (sym (c .before .pends .ensures) ∙ not-true _ (c .if1 .taken)) }
+returns c = let a = c .before .before .args in not-readied (now (a .config)) (a .s) (a .to) (a .sid) (a .t .0) (a .reply) (sym (c .before .pends .ensures) ∙ not-true _ (c .if1 .taken))
 
 find-session-requires : tie.Need-find-session-requires
 find-session-requires c κs = search needs
@@ -24,7 +23,7 @@ plus-requires : tie.Need-plus-requires
 plus-requires c κs = search needs
 
 returns-2 : tie.Need-returns-2
-returns-2 c = let a = c .before .before .before .before .before .before .args in pending-set (now (a .config)) (a .s) (a .to) (a .sid) (a .t .0) (a .reply) (c .plus .result .0) (c .before .p2-ext .result .0) (sym (c .before .before .before .before .before .pends .ensures) ∙ not-false _ (c .before .before .before .before .if1 .left)) (c .plus .ensures) (c .before .p2-ext .ensures ∙ ap p2ExtOf (c .before .before .find-session .ensures .row)) (c .before .before .before .before .before .before .pre .0) (c .before .before .before .before .before .before .pre .1)
+returns-2 c = let a = c .before .before .before .before .before .before .args in pending-set (now (a .config)) (a .s) (a .to) (a .sid) (a .t .0) (a .reply) (c .plus .result .0) (c .before .p2-ext .result .0) (sym (c .before .before .before .before .before .pends .ensures) ∙ not-false _ (c .before .before .before .before .if1 .left)) (search needs) (c .plus .ensures) (c .before .p2-ext .ensures ∙ ap p2ExtOf (c .before .before .find-session .ensures .row))
 
 pub readied-spec : {M : Type 1} → statement M
 readied-spec =
