@@ -102,7 +102,7 @@ module _ (c : Config) where
   kept-heard limit s r (some p) i = record { step = kept-queued s (r .inbound .dst) (negativeFrame (sidOf (r .inbound .frame)) 0x21) i }
   kept-heard limit s r none i =
       let sid = sidOf (r .inbound .frame) in
-      let f = at-guarded Fine (seen limit s r) (page-each (seen limit s r) (i .page)) sid (findService (s .config) sid) in
+      let f = at-guarded (λ sid. Fine) (seen limit s r) (page-each (seen limit s r) (i .page)) sid (findService (s .config) sid) in
       either (Answers c) (lengthFits (r .inbound .frame))
       (record { step = kept-apply limit s (r .inbound .src) sid (r .inbound .time) (served limit s r .effect) i (f .effect) })
       (record { step = keeps i })

@@ -88,15 +88,16 @@ abbrev pub IfSome : {A : Type 0} → (A → Type 0) → Option A → Type 0
 IfSome P none = Unit {0}
 IfSome P (some a) = P a
 
--- what holds of the list with one changed, and of the list with one more where there is room, holds of what `enter` gives
+-- what holds of the list with one changed, and of the list with one more where none passes and there is room, holds of what `enter` gives
 pub enter-gives : {A : Type 0} (P : List A → Type 0) (most : ℕ) (p : A → Bool) (f : A → A) (new : A) (l : List A)
-    → P (changeFirst p f l) → (length l < most → P (l ++ (new ∷ []))) → IfSome P (enter most p f new l)
+    → P (changeFirst p f l) → (any p l ≡ false → length l < most → P (l ++ (new ∷ []))) → IfSome P (enter most p f new l)
 unfolding enter
-enter-gives P most p f new l c g = either (IfSome P) (any p l) c (go (ltb (length l) most) refl)
+enter-gives P most p f new l c g = go (any p l) (ltb (length l) most) refl refl
   where
-    go : (b : Bool) → ltb (length l) most ≡ b → IfSome P (pick b (some (l ++ (new ∷ []))) none)
-    go true e = g (ltb-true (length l) most e)
-    go false e = tt
+    go : (a b : Bool) → any p l ≡ a → ltb (length l) most ≡ b → IfSome P (pick a (some (changeFirst p f l)) (pick b (some (l ++ (new ∷ []))) none))
+    go true b n e = c
+    go false true n e = g n (ltb-true (length l) most e)
+    go false false n e = tt
 
 -- a list that `enter` gives keeps the bound on its length
 pub enter-length : {A : Type 0} (most : ℕ) (p : A → Bool) (f : A → A) (new : A) (l : List A)
@@ -104,7 +105,7 @@ pub enter-length : {A : Type 0} (most : ℕ) (p : A → Bool) (f : A → A) (new
 enter-length most p f new l h =
     enter-gives (λ m. leb (length m) most ≡ true) most p f new l
     (rw length-changeFirst h)
-    (λ r. le-leb (length (l ++ (new ∷ []))) most (rw length-append (omega arith)))
+    (λ n r. le-leb (length (l ++ (new ∷ []))) most (rw length-append (omega arith)))
 
 -- and a test that all pass, that the change keeps and that the new one passes
 pub enter-within : {A : Type 0} (most : ℕ) (q p : A → Bool) (f : A → A) (new : A) (l : List A)
@@ -115,7 +116,7 @@ enter-within most q p f new l k n h =
     let good = within-all most q l h in
     enter-gives (λ m. tableWithin most q m ≡ true) most p f new l
     (table-within most q (changeFirst p f l) (rw length-changeFirst short) (all-change p q f l k good))
-    (λ r. table-within most q (l ++ (new ∷ [])) (rw length-append (omega arith)) (all-snoc q l new good n))
+    (λ z r. table-within most q (l ++ (new ∷ [])) (rw length-append (omega arith)) (all-snoc q l new good n))
 
 -- a property of each of some numbers
 abbrev pub Each : (ℕ → Type 0) → List ℕ → Type 0

@@ -153,7 +153,7 @@ module _ (v : Seen) (h : Paged (v .periodic)) where
   only : (a : Served) → Replies v a → Fine a
   only a e = fine (rw e (still refl))
 
-  pub page-each : Each Fine v
+  pub page-each : Each (λ sid. Fine) v
   page-each = record {
     at3E = only (service3E v) (only3E v);
     at10 = page10;
@@ -169,5 +169,5 @@ module _ (v : Seen) (h : Paged (v .periodic)) where
     at36 = only (service36 v) (only36 v);
     at37 = only (service37 v) (only37 v);
     at38 = only (service38 v) (only38 v);
-    refused = refuse;
+    refused = λ sid. refuse;
   }

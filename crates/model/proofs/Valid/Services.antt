@@ -260,7 +260,7 @@ module _ (v : Seen) (h : Sound v) where
       ids = drop 1 (v .payload)
 
   -- any of the fourteen, refusals included
-  fits-each : Each FitsServed v
+  fits-each : Each (λ sid. FitsServed) v
   fits-each = record {
     at3E = only-fits (service3E v) (only3E v);
     at10 = fits10;
@@ -276,9 +276,9 @@ module _ (v : Seen) (h : Sound v) where
     at36 = only-fits (service36 v) (only36 v);
     at37 = only-fits (service37 v) (only37 v);
     at38 = only-fits (service38 v) (only38 v);
-    refused = λ code. says-fits;
+    refused = λ sid code. says-fits;
   }
 
   -- what a frame's service answers
   pub guarded-fits : (sid : ℕ) (row : Option ServiceConfig) → FitsServed (guarded sid v row)
-  guarded-fits = at-guarded FitsServed v fits-each
+  guarded-fits = at-guarded (λ sid. FitsServed) v fits-each
