@@ -1,18 +1,17 @@
 -- What the parts of a call keep, every call keeps, and so does a history: said once of any property of configuration, security and subscriptions.
 use Prim.Native.Nat.{ℕ, suc}
-use mathlib.Core.Bool.{Bool, _&&_}
+use mathlib.Core.Bool.{_&&_}
 use mathlib.Core.List.{List, [], _∷_, _++_, append-nil, append-assoc}
 use mathlib.Core.Option.{Option, some, none}
 use lib.ListN.{length}
 use lib.Dec.{eqb, leb, ltb}
-use Rattle.model.specs.Tests.{pick}
 use Rattle.model.specs.Numbers.{Moment, maxOutbox, maxTime}
 use Rattle.model.specs.Config.{Config, findService}
 use Rattle.model.specs.Values.{Outcome, bytes, error, Table, value}
 use Rattle.model.specs.Frame.{sidOf, negativeFrame}
 use Rattle.model.specs.State.{Session, Security, Subscription, PendingRequest, AddressMode, State, Step, step, valid, withPending, received, cleared}
 use Rattle.model.specs.Service.{Seen, Served}
-use Rattle.model.specs.Request.{Request, Answer, plain, seen, served, lengthFits, heard, addressed, routed, request}
+use Rattle.model.specs.Request.{Request, Answer, seen, served, lengthFits, heard, addressed, routed, request}
 use Rattle.model.specs.Pending.{completed, failed, complete, fail}
 use Rattle.model.specs.Tick.{expired, s3, refreshed, Passed, advanced, dueSent, passOne, passAll, Ticked, begins, thenPeriodic, ticked, tick}
 use Rattle.model.specs.Drain.{records, Drained, drain}

@@ -3,7 +3,7 @@ use Prim.Native.Nat.{ℕ, suc, _≤_, _<_}
 use mathlib.Core.Path.{_≡_, refl, ap}
 use mathlib.Core.Bool.{Bool, true, false, _&&_, false≢true}
 use mathlib.Core.List.{List, [], _∷_, _++_}
-use mathlib.Core.Option.{Option, some, none, Option·none-ne-some}
+use mathlib.Core.Option.{Option, some, none}
 use native.Mathlib.Omega.{arith}
 use lib.ListN.{length, length-append}
 use lib.Dec.{leb, ltb, eqb}
@@ -44,17 +44,6 @@ all-without p q [] h = refl
 all-without p q (b ∷ l) h =
     let r : all q (without p l) ≡ true = all-without p q l (right (q b) (all q l) h) in
     either (λ m. all q m ≡ true) (p b) r (both (left (q b) (all q l) h) r)
-
--- an entry changed or added keeps a test that the change keeps and the new one passes
-pub all-enter : {A : Type 0} (most : ℕ) (p q : A → Bool) (f : A → A) (new : A) (l m : List A) → ((a : A) → q a ≡ true → q (f a) ≡ true) → q new ≡ true → all q l ≡ true
-    → enter most p f new l ≡ some m → all q m ≡ true
-unfolding enter
-all-enter most p q f new l m k n h e = go (any p l) (ltb (length l) most) e
-  where
-    go : (a b : Bool) → pick a (some (changeFirst p f l)) (pick b (some (l ++ (new ∷ []))) none) ≡ some m → all q m ≡ true
-    go true b z = let g : changeFirst p f l ≡ m = cc in rw (← g) (all-change p q f l k h)
-    go false true z = let g : l ++ (new ∷ []) ≡ m = cc in rw (← g) (all-snoc q l new h n)
-    go false false z = absurd (Option·none-ne-some m z)
 
 -- one of two by the same test on both sides, where the two pairs are related
 pub alike : {A B : Type 0} (R : A → B → Type 0) (b : Bool) {x y : A} {z w : B} → R x z → R y w → R (pick b x y) (pick b z w)

@@ -2,28 +2,26 @@
 use Prim.Native.Nat.{ℕ, suc, _+_, _≤_, _<_}
 use mathlib.Core.Path.{_≡_, refl, sym}
 use mathlib.Core.Bool.{Bool, true, false, _&&_, _||_, false≢true}
-use mathlib.Core.Logic.{_⊎_, inl, inr}
 use mathlib.Core.List.{List, [], _∷_, _++_}
-use mathlib.Core.Option.{Option, some, none}
 use native.Mathlib.Omega.{arith}
-use lib.ListN.{length, drop, getD}
-use lib.Dec.{eqb, leb, ltb}
+use lib.ListN.{length}
+use lib.Dec.{eqb}
 use borrow.Author.Tests.{eqb-true}
 use Rattle.model.specs.Tests.{pick, any, changeFirst, without}
 use Rattle.model.specs.Numbers.{Moment, Span, maxFrame, maxPeriodic}
-use Rattle.model.specs.Config.{Config, within, findDid, readable}
+use Rattle.model.specs.Config.{Config, within}
 use Rattle.model.specs.Values.{given0, emptyTable}
 use Rattle.model.specs.Frame.{periodicDid}
 use Rattle.model.specs.State.{Security, Subscription, State, Step, freshState, fresh}
-use Rattle.model.specs.Service.{Seen, Effect, Served}
-use Rattle.model.specs.Service2A.{rateOf, isSubscription, subscription, renewed, register, intervalFor, registered, registerAll, cancelAll, transmission, service2A}
+use Rattle.model.specs.Service.{Seen}
+use Rattle.model.specs.Service2A.{rateOf, isSubscription, subscription, renewed, register, intervalFor}
 use Rattle.model.specs.History.{Call, requests, call, run}
 use Rattle.model.specs.Fixed.{fixedConfig}
 use Rattle.model.specs.Alike.{inbound, asking}
 use Rattle.model.proofs.Laws.{left, right, either, alike, IfSome, enter-gives}
 use Rattle.model.proofs.Open.{whole}
 use Rattle.model.proofs.EveryCall.{Advances, empty, stands, sent, names, all-name, Parts, keeps-call, keeps-run}
-use Rattle.model.proofs.Untouched.{Left}
+use Rattle.model.proofs.Subscribing.{Keeps, any-service}
 
 -- how many elements pass a test
 abbrev pub count : {A : Type 0} → (A → Bool) → List A → ℕ
@@ -89,40 +87,12 @@ register-once x client interval now t h =
             let q = eqb-true client d (right (eqb x y) (eqb client d) e) in
             rw (← p, ← q) (rw (count-none (isSubscription x client) t n) (omega arith))
 
--- a service whose effect has each at most once
-abbrev Fine : Effect → Type 0
-Fine e = Once (e .periodic)
-
-abbrev FineServed : Served → Type 0
-FineServed a = Fine (a .effect)
-
-module _ (v : Seen) (h : Once (v .periodic)) where
-  registerAll-once : (mode : ℕ) (ids : List ℕ) (t : List Subscription) → Once t → Fine (registerAll v mode ids t)
-  registerAll-once mode [] t k = k
-  registerAll-once mode (b ∷ ids) t k =
-      let x = periodicDid b in
-      let i = intervalFor v (rateOf mode) x in
-      either Fine (readable (v .session .sessionType) (findDid (v .config) x))
-      (go (register x (v .src) i (v .now) t) (register-once x (v .src) i (v .now) t k) (registerAll-once mode ids)) k
-    where
-      go : (o : Option (List Subscription)) → IfSome Once o → ((u : List Subscription) → Once u → Fine (registerAll v mode ids u)) → Fine (registered v t o (registerAll v mode ids))
-      go none p f = k
-      go (some u) p f = f u p
-
-  cancelAll-once : (client : ℕ) (ids : List ℕ) (t : List Subscription) → Once t → Once (cancelAll client ids t)
-  cancelAll-once client [] t k = k
-  cancelAll-once client (b ∷ ids) t k =
-      let mine = isSubscription (periodicDid b) client in
-      cancelAll-once client ids (without mine t) (λ y d. let a = count-without (isSubscription y d) mine t in let c = k y d in omega arith)
-
-  service2A-once : FineServed (service2A v)
-  unfolding service2A transmission
-  service2A-once =
-      let mode = getD (v .payload) 0 0 in
-      let ids = drop 1 (v .payload) in
-      either FineServed (ltb (length (v .payload)) 1) h
-      (either FineServed (eqb mode 4) (cancelAll-once (v .src) ids (v .periodic) h)
-      (either FineServed (leb 1 mode && leb mode 3) (registerAll-once mode ids (v .periodic) h) h))
+-- 2A enters one so, and cancels
+once-keeps : (v : Seen) → Keeps Once v
+once-keeps v = record {
+  enters = λ mode b t h. register-once (periodicDid b) (v .src) (intervalFor v (rateOf mode) (periodicDid b)) (v .now) t h;
+  cancels = λ b t h y d. let a = count-without (isSubscription y d) (isSubscription (periodicDid b) (v .src)) t in let c = h y d in omega arith;
+}
 
 -- no other service changes the table, and a tick advances its entries
 abbrev Kept : Config → Security → List Subscription → Type 0
@@ -132,14 +102,11 @@ abbrev Every : ℕ → Type 0
 Every sid = Unit {0}
 
 once-parts : Parts Kept Every
-once-parts = record { clears = λ c k t h. h; advances = λ c k t u now a h. advances-once a h; serves = serves }
-  where
-    serves : (v : Seen) (sid : ℕ) (a : Served) → Left v sid a → Unit {0} → Once (v .periodic) → FineServed a
-    serves v sid a l n h = go (l .periodic)
-      where
-        go : (a .effect .periodic ≡ v .periodic) ⊎ ((sid ≡ 0x2A) × (a ≡ service2A v)) → FineServed a
-        go (inl e) = rw e h
-        go (inr e) = rw (e .1) (service2A-once v h)
+once-parts = record {
+  clears = λ c k t h. h;
+  advances = λ c k t u now a h. advances-once a h;
+  serves = λ v sid a l n h. any-service Once v h (once-keeps v) sid a l;
+}
 
 -- every call leaves each at most once where it was so
 pub call-once : (limit : ℕ) (s : State) (c : Call) → Once (s .periodic) → Once (call limit s c .state .periodic)

@@ -128,10 +128,10 @@ module _ (v : Seen) where
       (either TimedServed (eqb access 0) (refl, refl) (either TimedServed (eqb (access % 2) 1) (timed-requestSeed access) (timed-sendKey (access - 1))))
 
   -- 2A: an effect that leaves the time and the security record
-  abbrev Secure : Effect → Type 0
+  abbrev pub Secure : Effect → Type 0
   Secure e = (e .session .lastRx ≡ v .session .lastRx) × (e .security ≡ v .security)
 
-  abbrev SecureServed : Served → Type 0
+  abbrev pub SecureServed : Served → Type 0
   SecureServed a = Secure (a .effect)
 
   secure-register : (mode : ℕ) (ids : List ℕ) (t : List Subscription) → Secure (registerAll v mode ids t)
@@ -144,7 +144,7 @@ module _ (v : Seen) where
       go none ih = (refl, refl)
       go (some u) ih = ih u
 
-  secure2A : SecureServed (service2A v)
+  pub secure2A : SecureServed (service2A v)
   unfolding service2A transmission
   secure2A =
       let mode = getD (v .payload) 0 0 in
