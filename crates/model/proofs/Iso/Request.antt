@@ -63,7 +63,7 @@ module _ (limit : ℕ) (s : State) (r : Request) (m : AddressMode) (a : Arrives 
   abbrev pub found : State
   found = received s m (r .inbound .time)
 
-  arrives : request limit s r ≡ carried limit found (r .inbound) (served limit found r)
+  pub arrives : request limit s r ≡ carried limit found (r .inbound) (served limit found r)
   unfolding request routed heard
   arrives = rw (a .valid, le-leb _ _ (a .time), a .addressed, a .idle, le-leb _ _ (a .some-bytes), le-leb _ _ (a .few-bytes))
 
