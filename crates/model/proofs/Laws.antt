@@ -29,6 +29,11 @@ pub either : {A : Type 0} (P : A → Type 0) (b : Bool) {x y : A} → P x → P 
 either P true p q = p
 either P false p q = q
 
+-- so too where each has it if the test picks it
+pub either-by : {A : Type 0} (P : A → Type 0) (b : Bool) {x y : A} → (b ≡ true → P x) → (b ≡ false → P y) → P (pick b x y)
+either-by P true p q = p refl
+either-by P false p q = q refl
+
 -- a test over a list that grows by one, that has one changed, or that loses some
 pub all-snoc : {A : Type 0} (q : A → Bool) (l : List A) (a : A) → all q l ≡ true → q a ≡ true → all q (l ++ (a ∷ [])) ≡ true
 all-snoc q [] a h e = both e refl
