@@ -50,16 +50,26 @@ Final (completes now payload) = Unit {0}
 Final (fails now code) = Unit {0}
 Final (drains buffer) = ⊥
 
--- the pending request that is left is owed to the same destination, for the same service
-pub record Owed (p : PendingRequest) (o : Option PendingRequest) : Type 0 where
+-- a call that may move its deadline
+abbrev pub Moves : Call → Type 0
+Moves (requests r) = ⊥
+Moves (questions i) = ⊥
+Moves (ticks now t) = Unit {0}
+Moves (completes now payload) = ⊥
+Moves (fails now code) = ⊥
+Moves (drains buffer) = ⊥
+
+-- the pending request that is left is owed to the same destination for the same service, by the same deadline or a moved one
+pub record Owed (Moved : Type 0) (p : PendingRequest) (o : Option PendingRequest) : Type 0 where
   pub request : PendingRequest
   pub there : o ≡ some request
   pub dst : request .dst ≡ p .dst
   pub sid : request .sid ≡ p .sid
+  pub deadline : (request .deadline ≡ p .deadline) ⊎ Moved
 
 -- the same one is
-same-owed : {p : PendingRequest} {o : Option PendingRequest} → o ≡ some p → Owed p o
-same-owed {p} e = record { request = p; there = e; dst = refl; sid = refl }
+same-owed : {Moved : Type 0} {p : PendingRequest} {o : Option PendingRequest} → o ≡ some p → Owed Moved p o
+same-owed {p = p} e = record { request = p; there = e; dst = refl; sid = refl; deadline = inl refl }
 
 module _ (limit : ℕ) (p : PendingRequest) where
   -- a request finds the server busy
@@ -74,45 +84,46 @@ module _ (limit : ℕ) (p : PendingRequest) where
   routed-owed s r (some m) h = heard-owed (received s m (r .inbound .time)) r (s .pending) h h
 
   -- the second step of a tick: only the deadline moves
-  refreshed-owed : (s : State) (now : Moment) (o : Option PendingRequest) → o ≡ some p → s .pending ≡ some p → Owed p (refreshed s now o .state .pending)
+  refreshed-owed : (s : State) (now : Moment) (o : Option PendingRequest) → o ≡ some p → s .pending ≡ some p → Owed (Unit {0}) p (refreshed s now o .state .pending)
   unfolding refreshed begun
   refreshed-owed s now none e h = absurd (Option·none-ne-some p e)
   refreshed-owed s now (some q) e h =
-      either (λ (a : Step). Owed p (a .state .pending)) (leb (q .deadline) now)
-      (record { request = again; there = queued-pends (withPending s (some again)) (q .dst) (negativeFrame (q .sid) 0x78); dst = (cc); sid = cc })
+      either (λ (a : Step). Owed (Unit {0}) p (a .state .pending)) (leb (q .deadline) now)
+      (record { request = again; there = queued-pends (withPending s (some again)) (q .dst) (negativeFrame (q .sid) 0x78); dst = (cc); sid = (cc); deadline = inr tt })
       (same-owed h)
     where
       again : PendingRequest
       again = record { dst = q .dst; sid = q .sid; deadline = now + p2ExtOf (findSession (s .config) (s .session .sessionType)) }
 
-  ticked-owed : (s : State) (now : Moment) (t : Table) → s .pending ≡ some p → Owed p (ticked limit s now t .step .state .pending)
+  ticked-owed : (s : State) (now : Moment) (t : Table) → s .pending ≡ some p → Owed (Unit {0}) p (ticked limit s now t .step .state .pending)
   unfolding thenPeriodic s3
   ticked-owed s now t h = go (refreshed (s3 s now) now (s .pending)) (refreshed-owed (s3 s now) now (s .pending) h (either (λ (u : State). u .pending ≡ some p) (expired s now) h h))
     where
-      go : (a : Step) → Owed p (a .state .pending) → Owed p (thenPeriodic limit now t a .step .state .pending)
-      go a k = either (λ (b : Ticked). Owed p (b .step .state .pending)) (eqb (a .result) 0) k k
+      go : (a : Step) → Owed (Unit {0}) p (a .state .pending) → Owed (Unit {0}) p (thenPeriodic limit now t a .step .state .pending)
+      go a k = either (λ (b : Ticked). Owed (Unit {0}) p (b .step .state .pending)) (eqb (a .result) 0) k k
 
-  -- a call that is neither complete nor fail leaves a pending request pending, owed to the same destination for the same service
-  pub stays-pending : (s : State) (c : Call) → (Final c → ⊥) → s .pending ≡ some p → Owed p (call limit s c .state .pending)
+  -- a call that is neither complete nor fail leaves a pending request pending, owed to the same destination for the same service,
+  -- and but for a tick by the same deadline
+  pub stays-pending : (s : State) (c : Call) → (Final c → ⊥) → s .pending ≡ some p → Owed (Moves c) p (call limit s c .state .pending)
   unfolding call request tick drain
   stays-pending s (requests r) n h = either Left (valid limit s) (either Left (leb (r .inbound .time) maxTime) (same-owed (routed-owed s r (addressed (s .config) (r .inbound .dst)) h)) k) k
     where
       Left : Answer → Type 0
-      Left a = Owed p (a .step .state .pending)
+      Left a = Owed ⊥ p (a .step .state .pending)
 
-      k : Owed p (s .pending)
+      k : Owed ⊥ p (s .pending)
       k = same-owed h
   stays-pending s (questions i) n h = same-owed h
   stays-pending s (ticks now t) n h = either Left (valid limit s) (either Left (leb now maxTime) (ticked-owed s now t h) (same-owed h)) (same-owed h)
     where
       Left : Ticked → Type 0
-      Left a = Owed p (a .step .state .pending)
+      Left a = Owed (Unit {0}) p (a .step .state .pending)
   stays-pending s (completes now payload) n h = absurd (n tt)
   stays-pending s (fails now code) n h = absurd (n tt)
   stays-pending s (drains buffer) n h = either Left (valid limit s) (either Left (leb (length (records (s .queue))) (length buffer)) (same-owed h) (same-owed h)) (same-owed h)
     where
       Left : Drained → Type 0
-      Left d = Owed p (d .step .state .pending)
+      Left d = Owed ⊥ p (d .step .state .pending)
 
 -- after complete or fail, of a valid state and at a time up to 2^48, nothing is pending, also where 3 follows
 pub ends-pending : (limit : ℕ) (s : State) (c : Call) → Final c → valid limit s ≡ true → timeOf c ≤ maxTime → call limit s c .state .pending ≡ none
@@ -146,7 +157,7 @@ pub ends-exactly : (limit : ℕ) (s : State) (c : Call) (p : PendingRequest) →
     → (call limit s c .state .pending ≡ none) ↔ (Final c × (valid limit s ≡ true) × (timeOf c ≤ maxTime))
 ends-exactly limit s c p h = (λ z. go z (ends limit s c) (final-or-not c), λ k. ends-pending limit s c (k .0) (k .1) (k .2))
   where
-    never : {A : Type 0} → call limit s c .state .pending ≡ none → Owed p (call limit s c .state .pending) → A
+    never : {A : Type 0} → call limit s c .state .pending ≡ none → Owed (Moves c) p (call limit s c .state .pending) → A
     never z k = absurd (Option·some-ne-none (k .request) (sym (k .there) ∙ z))
 
     go : call limit s c .state .pending ≡ none → Ends limit s c → Final c ⊎ (Final c → ⊥) → Final c × (valid limit s ≡ true) × (timeOf c ≤ maxTime)

@@ -138,7 +138,7 @@ module _ (v : Seen) where
   placed-key level h =
       either (Serves 0x27) (locked (v .security) level (v .now)) (still 0x27)
       (either (Serves 0x27) (awaits (v .security) level)
-      (either (Serves 0x27) (keyFits (n - 1) (findLevel (v .config) level)) (asked (first-byte h (place 2 2 (n - 1) (omega arith) (omega arith) done))) (still 0x27))
+      (either (Serves 0x27) (keyFits (n - 1) (findLevel (v .config) level)) (asked (first-byte h (place 2 2 _ (omega arith) (omega arith) done))) (still 0x27))
       (still 0x27))
 
   placed27 : Serves 0x27 (service27 v)
@@ -167,29 +167,20 @@ module _ (v : Seen) where
       row t =
           let h = leb-true 3 n t in
           either (Serves 0x2E) (writable (v .session .sessionType) did)
-          (either (Serves 0x2E) (heldFor (v .session .level) did) (asked (place 1 1 2 (omega arith) (omega arith) (place 3 3 (n - 2) (omega arith) (omega arith) done))) (still 0x2E))
+          (either (Serves 0x2E) (heldFor (v .session .level) did) (asked (place 1 1 2 (omega arith) (omega arith) (place 3 3 _ (omega arith) (omega arith) done))) (still 0x2E))
           (still 0x2E)
 
   placed31 : Serves 0x31 (service31 v)
   unfolding service31
-  placed31 = either-by (Serves 0x31) (leb 3 n) (λ t. asked (go (leb-true 3 n t))) (λ t. still 0x31)
-    where
-      go : 3 ≤ n → InOrder (suc n) 1 (part 1 1 ∷ part 2 2 ∷ part 4 (n - 3) ∷ [])
-      go h = first-byte (omega arith) (place 2 2 2 (omega arith) (omega arith) (place 4 4 (n - 3) (omega arith) (omega arith) done))
+  placed31 = either-by (Serves 0x31) (leb 3 n) (λ t. let h = leb-true 3 n t in asked (first-byte (omega arith) (place 2 2 _ (omega arith) (omega arith) (place 4 4 _ (omega arith) (omega arith) done)))) (λ t. still 0x31)
 
   placed28 : Serves 0x28 (service28 v)
   unfolding service28
-  placed28 = either-by (Serves 0x28) (leb 2 n) (λ t. asked (go (leb-true 2 n t))) (λ t. still 0x28)
-    where
-      go : 2 ≤ n → InOrder (suc n) 1 (part 1 1 ∷ part 2 1 ∷ [])
-      go h = first-byte (omega arith) (place 2 2 1 (omega arith) (omega arith) done)
+  placed28 = either-by (Serves 0x28) (leb 2 n) (λ t. let h = leb-true 2 n t in asked (first-byte (omega arith) (place 2 2 _ (omega arith) (omega arith) done))) (λ t. still 0x28)
 
   placed2F : Serves 0x2F (service2F v)
   unfolding service2F
-  placed2F = either-by (Serves 0x2F) (leb 3 n) (λ t. asked (go (leb-true 3 n t))) (λ t. still 0x2F)
-    where
-      go : 3 ≤ n → InOrder (suc n) 1 (part 1 2 ∷ part 3 1 ∷ part 4 (n - 3) ∷ [])
-      go h = place 1 1 2 (omega arith) (omega arith) (place 3 3 1 (omega arith) (omega arith) (place 4 4 (n - 3) (omega arith) (omega arith) done))
+  placed2F = either-by (Serves 0x2F) (leb 3 n) (λ t. let h = leb-true 3 n t in asked (place 1 1 _ (omega arith) (omega arith) (place 3 3 _ (omega arith) (omega arith) (place 4 4 _ (omega arith) (omega arith) done)))) (λ t. still 0x2F)
 
   placed34 : Serves 0x34 (service34 v)
   unfolding service34
@@ -206,10 +197,7 @@ module _ (v : Seen) where
 
   placed36 : Serves 0x36 (service36 v)
   unfolding service36
-  placed36 = either-by (Serves 0x36) (leb 1 n) (λ t. asked (go (leb-true 1 n t))) (λ t. still 0x36)
-    where
-      go : 1 ≤ n → InOrder (suc n) 1 (part 1 1 ∷ part 2 (n - 1) ∷ [])
-      go h = first-byte h (place 2 2 (n - 1) (omega arith) (omega arith) done)
+  placed36 = either-by (Serves 0x36) (leb 1 n) (λ t. let h = leb-true 1 n t in asked (first-byte h (place 2 2 _ (omega arith) (omega arith) done))) (λ t. still 0x36)
 
   placed37 : Serves 0x37 (service37 v)
   unfolding service37

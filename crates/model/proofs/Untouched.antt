@@ -12,7 +12,7 @@ use Rattle.model.specs.Config.{SessionConfig, SecurityLevelConfig, findS
 use Rattle.model.specs.Values.{Outcome, bytes, error, outcome}
 use Rattle.model.specs.Frame.{subFunction, periodicDid}
 use Rattle.model.specs.State.{Security, Subscription, Failed, Lock}
-use Rattle.model.specs.Service.{Seen, Effect, Served}
+use Rattle.model.specs.Service.{Seen, Effect, Served, refuses}
 use Rattle.model.specs.Service3E.{service3E}
 use Rattle.model.specs.Service10.{sessionControl, service10}
 use Rattle.model.specs.Service11.{reset, service11}
@@ -44,40 +44,35 @@ pub record Left (v : Seen) (sid : ℕ) (a : Served) : Type 0 where
 
 module _ (v : Seen) where
   -- an effect that leaves all of it
-  record Whole (e : Effect) : Type 0 where
-    lastRx : e .session .lastRx ≡ v .session .lastRx
-    periodic : e .periodic ≡ v .periodic
-    counts : SameCounts (v .security) (e .security)
+  abbrev Whole : Effect → Type 0
+  Whole e = (e .session .lastRx ≡ v .session .lastRx) × (e .periodic ≡ v .periodic) × (e .security .failed ≡ v .security .failed) × (e .security .locks ≡ v .security .locks)
 
   abbrev WholeServed : Served → Type 0
   WholeServed a = Whole (a .effect)
 
-  whole : {e : Effect} → e .session .lastRx ≡ v .session .lastRx → e .periodic ≡ v .periodic → e .security .failed ≡ v .security .failed → e .security .locks ≡ v .security .locks → Whole e
-  whole a b c d = record { lastRx = a; periodic = b; counts = record { failed = c; locks = d } }
-
-  left-whole : (sid : ℕ) {a : Served} → WholeServed a → Left v sid a
-  left-whole sid h = record { lastRx = h .lastRx; periodic = inl (h .periodic); counts = inl (h .counts) }
+  left-whole : (sid : ℕ) (a : Served) → WholeServed a → Left v sid a
+  left-whole sid a h = record { lastRx = h .0; periodic = inl (h .1); counts = inl (record { failed = h .2; locks = h .3 }) }
 
   -- so does a service that only replies
   only : (sid : ℕ) (a : Served) → Replies v a → Left v sid a
-  only sid a e = left-whole sid (rw e (whole refl refl refl refl))
+  only sid a e = left-whole sid a (rw e (refl, refl, refl, refl))
 
   -- 10 and 11
   whole10 : WholeServed (service10 v)
   unfolding service10 sessionControl
-  whole10 = either WholeServed (ltb (length (v .payload)) 1) (whole refl refl refl refl) (row (findSession (v .config) (subFunction (v .payload))))
+  whole10 = either WholeServed (ltb (length (v .payload)) 1) (refl, refl, refl, refl) (row (findSession (v .config) (subFunction (v .payload))))
     where
       row : (o : Option SessionConfig) → WholeServed (sessionControl v (subFunction (v .payload)) o)
-      row none = whole refl refl refl refl
-      row (some r) = whole refl refl refl refl
+      row none = (refl, refl, refl, refl)
+      row (some r) = (refl, refl, refl, refl)
 
   whole11 : WholeServed (service11 v)
   unfolding service11 reset
-  whole11 = either WholeServed (ltb (length (v .payload)) 1) (whole refl refl refl refl) (go (outcome (v .limit) (v .given)))
+  whole11 = either WholeServed (ltb (length (v .payload)) 1) (refl, refl, refl, refl) (go (outcome (v .limit) (v .given)))
     where
       go : (o : Outcome) → Whole (reset v o)
-      go (bytes b) = whole refl refl refl refl
-      go (error code) = whole refl refl refl refl
+      go (bytes b) = (refl, refl, refl, refl)
+      go (error code) = (refl, refl, refl, refl)
 
   -- 27: an effect that leaves the time and the subscriptions
   abbrev Timed : Effect → Type 0
@@ -155,8 +150,8 @@ module _ (v : Seen) where
   pub untouched : Each (Left v) v
   untouched = record {
     at3E = only 0x3E (service3E v) (only3E v);
-    at10 = left-whole 0x10 whole10;
-    at11 = left-whole 0x11 whole11;
+    at10 = left-whole 0x10 (service10 v) whole10;
+    at11 = left-whole 0x11 (service11 v) whole11;
     at27 = record { lastRx = timed27 .0; periodic = inl (timed27 .1); counts = inr (refl, refl) };
     at22 = only 0x22 (service22 v) (only22 v);
     at2E = only 0x2E (service2E v) (only2E v);
@@ -168,5 +163,5 @@ module _ (v : Seen) where
     at36 = only 0x36 (service36 v) (only36 v);
     at37 = only 0x37 (service37 v) (only37 v);
     at38 = only 0x38 (service38 v) (only38 v);
-    refused = λ sid code. left-whole sid (whole refl refl refl refl);
+    refused = λ sid code. left-whole sid (refuses v code) (refl, refl, refl, refl);
   }
