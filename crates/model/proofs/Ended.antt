@@ -30,11 +30,12 @@ use Rattle.model.proofs.Leaves.{Ends, invalid, late, passes, ends}
 abbrev Pends : Option PendingRequest → Step → Type 0
 Pends o p = p .state .pending ≡ o
 
--- a frame queued, a code withheld or not, and a positive payload leave it as it is
+-- a frame queued leaves it as it is
 queued-pends : (s : State) (to : ℕ) (b : List ℕ) → Pends (s .pending) (queued s to b)
 unfolding queued
 queued-pends s to b = either (Pends (s .pending)) (ltb (length (s .queue)) maxOutbox) refl refl
 
+-- and so does a positive payload, or 0x14 in its place
 confirmed-pends : (limit : ℕ) (s : State) (to sid : ℕ) (p : List ℕ) → Pends (s .pending) (confirmed limit s to sid p)
 unfolding confirmed refused
 confirmed-pends limit s to sid p =
@@ -78,6 +79,7 @@ module _ (limit : ℕ) (p : PendingRequest) where
   heard-owed s r none e h = absurd (Option·none-ne-some p e)
   heard-owed s r (some q) e h = queued-pends s (r .inbound .dst) (negativeFrame (sidOf (r .inbound .frame)) 0x21) ∙ h
 
+  -- or is foreign
   routed-owed : (s : State) (r : Request) (o : Option AddressMode) → s .pending ≡ some p → routed limit s r o .step .state .pending ≡ some p
   unfolding routed
   routed-owed s r none h = h
@@ -95,6 +97,7 @@ module _ (limit : ℕ) (p : PendingRequest) where
       again : PendingRequest
       again = record { dst = q .dst; sid = q .sid; deadline = now + p2ExtOf (findSession (s .config) (s .session .sessionType)) }
 
+  -- nor do the others end it
   ticked-owed : (s : State) (now : Moment) (t : Table) → s .pending ≡ some p → Owed (Unit {0}) p (ticked limit s now t .step .state .pending)
   unfolding thenPeriodic s3
   ticked-owed s now t h = go (refreshed (s3 s now) now (s .pending)) (refreshed-owed (s3 s now) now (s .pending) h (either (λ (u : State). u .pending ≡ some p) (expired s now) h h))

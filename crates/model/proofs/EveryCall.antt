@@ -28,12 +28,13 @@ pub data Advances (now : Moment) : List Subscription → List Subscription → T
   stands : {e : Subscription} {t u : List Subscription} → Advances now t u → Advances now (e ∷ t) (e ∷ u)
   sent : {e : Subscription} {t u : List Subscription} → Advances now t u → Advances now (e ∷ t) (advanced now e ∷ u)
 
--- so too with one more at the end
+-- so too with one more at the end, which stands
 stands-last : {now : Moment} {t u : List Subscription} (e : Subscription) → Advances now t u → Advances now (t ++ (e ∷ [])) (u ++ (e ∷ []))
 stands-last e empty = stands empty
 stands-last e (stands a) = stands (stands-last e a)
 stands-last e (sent a) = sent (stands-last e a)
 
+-- or which is sent
 sent-last : {now : Moment} {t u : List Subscription} (e : Subscription) → Advances now t u → Advances now (t ++ (e ∷ [])) (u ++ (advanced now e ∷ []))
 sent-last e empty = sent empty
 sent-last e (stands a) = stands (sent-last e a)
@@ -41,6 +42,7 @@ sent-last e (sent a) = sent (sent-last e a)
 
 -- a tick's periodic step leaves such a table
 module _ (limit : ℕ) (now : Moment) (table : Table) where
+  -- one entry
   one-advances : (t : List Subscription) (a : Passed) (e : Subscription) → Advances now t (a .entries) → Advances now (t ++ (e ∷ [])) (passOne limit now table a e .entries)
   unfolding passOne dueSent
   one-advances t a e h = either Going (eqb (a .result) 0 && leb (e .next) now) (due (value limit table (e .identifier))) (stands-last e h)
@@ -52,10 +54,12 @@ module _ (limit : ℕ) (now : Moment) (table : Table) where
       due (error code) = stands-last e h
       due (bytes b) = either Going (leb (suc (length b)) limit) (either Going (ltb (length (a .queue)) maxOutbox) (sent-last e h) (stands-last e h)) (stands-last e h)
 
+  -- those behind the entries that have passed
   all-advance : (t es : List Subscription) (a : Passed) → Advances now t (a .entries) → Advances now (t ++ es) (passAll limit now table es a .entries)
   all-advance t [] a h = rw append-nil h
   all-advance t (e ∷ es) a h = rw append-assoc at (all-advance (t ++ (e ∷ [])) es (passOne limit now table a e) (one-advances t a e h))
 
+  -- the whole table
   pub passed-advances : (s : State) → Advances now (s .periodic) (passAll limit now table (s .periodic) (begins s) .entries)
   passed-advances s = all-advance [] (s .periodic) (begins s) empty
 
@@ -75,19 +79,21 @@ module _ (N : ℕ → Type 0) where
   AllName [] = Unit {0}
   AllName (c ∷ h) = Names c × AllName h
 
-  -- which is so if all are spoken of
-  module _ (every : (sid : ℕ) → N sid) where
-    pub names : (c : Call) → Names c
-    names (requests r) = every (sidOf (r .inbound .frame))
-    names (questions i) = tt
-    names (ticks now t) = tt
-    names (completes now p) = tt
-    names (fails now code) = tt
-    names (drains b) = tt
+-- where all are spoken of, every call and every history names no other
+abbrev pub AnyService : ℕ → Type 0
+AnyService sid = Unit {0}
 
-    pub all-name : (h : List Call) → AllName h
-    all-name [] = tt
-    all-name (c ∷ h) = (names c, all-name h)
+pub names : (c : Call) → Names AnyService c
+names (requests r) = tt
+names (questions i) = tt
+names (ticks now t) = tt
+names (completes now p) = tt
+names (fails now code) = tt
+names (drains b) = tt
+
+pub all-name : (h : List Call) → AllName AnyService h
+all-name [] = tt
+all-name (c ∷ h) = (names c, all-name h)
 
 -- a property of configuration, security and subscriptions, and the services that are spoken of
 module _ (Q : Config → Security → List Subscription → Type 0) (N : ℕ → Type 0) where
@@ -113,6 +119,7 @@ module _ (Q : Config → Security → List Subscription → Type 0) (N : ℕ →
   Q′ c m a k t = Q c k t
 
   module _ (parts : Parts) (limit : ℕ) where
+    -- a request that is heard: busy, of a length that does not fit, or served
     keeps-heard : (s : State) (r : Request) (o : Option PendingRequest) → N (sidOf (r .inbound .frame)) → Of s → Answers (heard limit s r o)
     unfolding heard
     keeps-heard s r (some p) n h = answered-on Q′ (queued-answered s (r .inbound .dst) (negativeFrame (sidOf (r .inbound .frame)) 0x21)) h
@@ -123,16 +130,19 @@ module _ (Q : Config → Security → List Subscription → Type 0) (N : ℕ →
         (apply-on Q′ limit s (r .inbound .src) sid (r .inbound .time) (served limit s r .effect) h
         (parts .serves v sid (served limit s r) (at-guarded (Left v) v (untouched v) sid (findService (s .config) sid)) n h)) h
 
+    -- a request that is routed, also one to a foreign address
     keeps-routed : (s : State) (r : Request) (o : Option AddressMode) → N (sidOf (r .inbound .frame)) → Of s → Answers (routed limit s r o)
     unfolding routed
     keeps-routed s r none n h = h
     keeps-routed s r (some m) n h = keeps-heard (received s m (r .inbound .time)) r (s .pending) n h
 
+    -- a pending request ends by an answer
     keeps-completed : (s : State) (p : List ℕ) (o : Option PendingRequest) → Of s → Leaves (completed limit s p o)
     unfolding completed
     keeps-completed s p none h = h
     keeps-completed s p (some q) h = answered-on Q′ (confirmed-answered limit (withPending s none) (q .dst) (q .sid) p) h
 
+    -- or by a code
     keeps-failed : (s : State) (code : ℕ) (o : Option PendingRequest) → Of s → Leaves (failed s code o)
     unfolding failed
     keeps-failed s code none h = h
@@ -144,6 +154,7 @@ module _ (Q : Config → Security → List Subscription → Type 0) (N : ℕ →
     keeps-refreshed s now h =
         answered-on Q′ (refreshed-answered (s3 s now) now (s .pending)) (either Of (expired s now) (parts .clears (s .config) (s .security) (s .periodic) h) h)
 
+    -- and the third
     keeps-ticked : (s : State) (now : Moment) (t : Table) → Of s → Leaves (ticked limit s now t .step)
     unfolding thenPeriodic
     keeps-ticked s now t h = go (refreshed (s3 s now) now (s .pending)) (keeps-refreshed s now h)

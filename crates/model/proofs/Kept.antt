@@ -8,7 +8,7 @@ use Rattle.model.specs.Config.{Config, within}
 use Rattle.model.specs.State.{Security, Subscription, State, Step, fresh}
 use Rattle.model.specs.Tick.{s3, refreshed}
 use Rattle.model.specs.History.{Call, call}
-use Rattle.model.proofs.EveryCall.{Advances, empty, stands, sent, names, Parts, keeps-refreshed, keeps-call}
+use Rattle.model.proofs.EveryCall.{Advances, empty, stands, sent, AnyService, names, Parts, keeps-refreshed, keeps-call}
 use Rattle.model.proofs.Laws.{both, left, right, either}
 use Rattle.model.proofs.Page.{onPage, Paged, page-keeps}
 use Rattle.model.proofs.Subscribing.{any-service}
@@ -29,10 +29,7 @@ module _ (c : Config) where
   abbrev Q : Config → Security → List Subscription → Type 0
   Q d k t = (d ≡ c) × Paged t
 
-  abbrev Every : ℕ → Type 0
-  Every sid = Unit {0}
-
-  parts : Parts Q Every
+  parts : Parts Q AnyService
   parts = record {
     clears = λ d k t h. h;
     advances = λ d k t u now a h. (h .0, advances-paged a (h .1));
@@ -41,11 +38,11 @@ module _ (c : Config) where
 
   -- the first two steps of a tick
   pub kept-refreshed : (s : State) (now : Moment) → Kept c s → Kept c (refreshed (s3 s now) now (s .pending) .state)
-  kept-refreshed s now i = let k = keeps-refreshed Q Every parts 0 s now (i .config, i .page) in record { config = k .0; page = k .1 }
+  kept-refreshed s now i = let k = keeps-refreshed Q AnyService parts 0 s now (i .config, i .page) in record { config = k .0; page = k .1 }
 
   -- every call
   pub kept-call : (limit : ℕ) (s : State) (k : Call) → Kept c s → Kept c (call limit s k .state)
-  kept-call limit s k i = let h = keeps-call Q Every parts limit s k (names Every (λ sid. tt) k) (i .config, i .page) in record { config = h .0; page = h .1 }
+  kept-call limit s k i = let h = keeps-call Q AnyService parts limit s k (names k) (i .config, i .page) in record { config = h .0; page = h .1 }
 
 -- a fresh server keeps its own configuration, and has no subscription
 pub kept-fresh : (c : Config) → Kept (fresh c .state .config) (fresh c .state)

@@ -86,12 +86,8 @@ IfSome P (some a) = P a
 pub enter-gives : {A : Type 0} (P : List A → Type 0) (most : ℕ) (p : A → Bool) (f : A → A) (new : A) (l : List A)
     → P (changeFirst p f l) → (any p l ≡ false → length l < most → P (l ++ (new ∷ []))) → IfSome P (enter most p f new l)
 unfolding enter
-enter-gives P most p f new l c g = go (any p l) (ltb (length l) most) refl refl
-  where
-    go : (a b : Bool) → any p l ≡ a → ltb (length l) most ≡ b → IfSome P (pick a (some (changeFirst p f l)) (pick b (some (l ++ (new ∷ []))) none))
-    go true b n e = c
-    go false true n e = g n (ltb-true (length l) most e)
-    go false false n e = tt
+enter-gives P most p f new l c g =
+    either-by (IfSome P) (any p l) (λ s. c) (λ n. either-by (IfSome P) (ltb (length l) most) (λ r. g n (ltb-true (length l) most r)) (λ r. tt))
 
 -- a list that `enter` gives keeps the bound on its length
 pub enter-length : {A : Type 0} (most : ℕ) (p : A → Bool) (f : A → A) (new : A) (l : List A)

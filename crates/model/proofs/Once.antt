@@ -20,7 +20,7 @@ use Rattle.model.specs.Fixed.{fixedConfig}
 use Rattle.model.specs.Alike.{inbound, asking}
 use Rattle.model.proofs.Laws.{left, right, either, alike, IfSome, enter-gives}
 use Rattle.model.proofs.Open.{whole}
-use Rattle.model.proofs.EveryCall.{Advances, empty, stands, sent, names, all-name, Parts, keeps-call, keeps-run}
+use Rattle.model.proofs.EveryCall.{Advances, empty, stands, sent, AnyService, names, all-name, Parts, keeps-call, keeps-run}
 use Rattle.model.proofs.Subscribing.{Keeps, any-service}
 
 -- how many elements pass a test
@@ -95,13 +95,10 @@ once-keeps v = record {
 }
 
 -- no other service changes the table, and a tick advances its entries
-abbrev Kept : Config → Security → List Subscription → Type 0
-Kept c k t = Once t
+abbrev TableOnce : Config → Security → List Subscription → Type 0
+TableOnce c k t = Once t
 
-abbrev Every : ℕ → Type 0
-Every sid = Unit {0}
-
-once-parts : Parts Kept Every
+once-parts : Parts TableOnce AnyService
 once-parts = record {
   clears = λ c k t h. h;
   advances = λ c k t u now a h. advances-once a h;
@@ -110,7 +107,7 @@ once-parts = record {
 
 -- every call leaves each at most once where it was so
 pub call-once : (limit : ℕ) (s : State) (c : Call) → Once (s .periodic) → Once (call limit s c .state .periodic)
-call-once limit s c = keeps-call Kept Every once-parts limit s c (names Every (λ sid. tt) c)
+call-once limit s c = keeps-call TableOnce AnyService once-parts limit s c (names c)
 
 -- a fresh server has no subscription
 pub fresh-once : (c : Config) → Once (fresh c .state .periodic)
@@ -119,7 +116,7 @@ fresh-once c = either (λ (p : Step). Once (p .state .periodic)) (within c) (λ 
 
 -- so after any history no identifier and client stands twice
 pub reached-once : (limit : ℕ) (c : Config) (h : List Call) → Once (run limit (fresh c .state) h .periodic)
-reached-once limit c h = keeps-run Kept Every once-parts limit h (fresh c .state) (all-name Every (λ sid. tt) h) (fresh-once c)
+reached-once limit c h = keeps-run TableOnce AnyService once-parts limit h (fresh c .state) (all-name h) (fresh-once c)
 
 -- that is not empty: two clients that subscribe to F201, the first of them twice, have an entry each
 abbrev subscribes : Moment → ℕ → Call

@@ -43,7 +43,8 @@ use Rattle.model.proofs.Laws.{left, right, either, either-by}
 abbrev pub Empty : Part → Type 0
 Empty p = (p .start ≡ 0) × (p .len ≡ 0)
 
--- parts that lie in a frame of some length, in its order, from a place on: each is empty, or begins there or later, ends in the frame, and has the others behind its end
+-- parts that lie in a frame of some length, in its order, from a place on: the first is empty, or begins there or later and ends in the frame,
+-- and so do the others, from its end on
 pub data InOrder (size : ℕ) : ℕ → List Part → Type 0 where
   done : {from : ℕ} → InOrder size from []
   skips : {from : ℕ} {p : Part} {ps : List Part} → Empty p → InOrder size from ps → InOrder size from (p ∷ ps)
@@ -95,10 +96,11 @@ module _ (v : Seen) where
   abbrev Serves : ℕ → Served → Type 0
   Serves sid a = Placed (suc n) sid (a .act)
 
-  -- no act, or the service's own
+  -- no act
   still : (sid : ℕ) → Placed (suc n) sid noAct
   still sid = unasked (suc n) sid
 
+  -- or the service's own
   asked : {sid : ℕ} {ps : List Part} → InOrder (suc n) 1 ps → Placed (suc n) sid (record { number = sid; arguments = ps })
   asked k = record { number = inr refl; inOrder = k }
 
@@ -106,6 +108,7 @@ module _ (v : Seen) where
   first-byte : {ps : List Part} → 1 ≤ n → InOrder (suc n) 2 ps → InOrder (suc n) 1 (part 1 1 ∷ ps)
   first-byte h k = place 1 1 1 (omega arith) (omega arith) k
 
+  -- the services that ask none
   placed10 : Serves 0x10 (service10 v)
   unfolding service10 sessionControl
   placed10 = either (Serves 0x10) (ltb n 1) (still 0x10) (row (findSession (v .config) (subFunction (v .payload))))
@@ -141,6 +144,7 @@ module _ (v : Seen) where
       (either (Serves 0x27) (keyFits (n - 1) (findLevel (v .config) level)) (asked (first-byte h (place 2 2 _ (omega arith) (omega arith) done))) (still 0x27))
       (still 0x27))
 
+  -- 27 by its access type
   placed27 : Serves 0x27 (service27 v)
   unfolding service27 securityAccess
   placed27 = either-by (Serves 0x27) (ltb n 1) (λ t. still 0x27) (λ t. go (ltb-false n 1 t))
@@ -151,11 +155,12 @@ module _ (v : Seen) where
       go : 1 ≤ n → Serves 0x27 (securityAccess v access)
       go h = either (Serves 0x27) (eqb access 0) (still 0x27) (either (Serves 0x27) (eqb (access % 2) 1) (placed-seed access h) (placed-key (access - 1) h))
 
+  -- 11: the type
   placed11 : Serves 0x11 (service11 v)
   unfolding service11
   placed11 = either-by (Serves 0x11) (ltb n 1) (λ t. still 0x11) (λ t. asked (first-byte (ltb-false n 1 t) done))
 
-  -- the others, where the payload is long enough
+  -- the others ask where the payload is long enough, and 2E after its tests
   placed2E : Serves 0x2E (service2E v)
   unfolding service2E writeRow
   placed2E = either-by (Serves 0x2E) (leb 3 n) row (λ t. still 0x2E)
@@ -172,15 +177,24 @@ module _ (v : Seen) where
 
   placed31 : Serves 0x31 (service31 v)
   unfolding service31
-  placed31 = either-by (Serves 0x31) (leb 3 n) (λ t. let h = leb-true 3 n t in asked (first-byte (omega arith) (place 2 2 _ (omega arith) (omega arith) (place 4 4 _ (omega arith) (omega arith) done)))) (λ t. still 0x31)
+  placed31 =
+      either-by (Serves 0x31) (leb 3 n)
+      (λ t. let h = leb-true 3 n t in asked (first-byte (omega arith) (place 2 2 _ (omega arith) (omega arith) (place 4 4 _ (omega arith) (omega arith) done))))
+      (λ t. still 0x31)
 
   placed28 : Serves 0x28 (service28 v)
   unfolding service28
-  placed28 = either-by (Serves 0x28) (leb 2 n) (λ t. let h = leb-true 2 n t in asked (first-byte (omega arith) (place 2 2 _ (omega arith) (omega arith) done))) (λ t. still 0x28)
+  placed28 =
+      either-by (Serves 0x28) (leb 2 n)
+      (λ t. let h = leb-true 2 n t in asked (first-byte (omega arith) (place 2 2 _ (omega arith) (omega arith) done)))
+      (λ t. still 0x28)
 
   placed2F : Serves 0x2F (service2F v)
   unfolding service2F
-  placed2F = either-by (Serves 0x2F) (leb 3 n) (λ t. let h = leb-true 3 n t in asked (place 1 1 _ (omega arith) (omega arith) (place 3 3 _ (omega arith) (omega arith) (place 4 4 _ (omega arith) (omega arith) done)))) (λ t. still 0x2F)
+  placed2F =
+      either-by (Serves 0x2F) (leb 3 n)
+      (λ t. let h = leb-true 3 n t in asked (place 1 1 _ (omega arith) (omega arith) (place 3 3 _ (omega arith) (omega arith) (place 4 4 _ (omega arith) (omega arith) done))))
+      (λ t. still 0x2F)
 
   placed34 : Serves 0x34 (service34 v)
   unfolding service34
@@ -197,7 +211,10 @@ module _ (v : Seen) where
 
   placed36 : Serves 0x36 (service36 v)
   unfolding service36
-  placed36 = either-by (Serves 0x36) (leb 1 n) (λ t. let h = leb-true 1 n t in asked (first-byte h (place 2 2 _ (omega arith) (omega arith) done))) (λ t. still 0x36)
+  placed36 =
+      either-by (Serves 0x36) (leb 1 n)
+      (λ t. let h = leb-true 1 n t in asked (first-byte h (place 2 2 _ (omega arith) (omega arith) done)))
+      (λ t. still 0x36)
 
   placed37 : Serves 0x37 (service37 v)
   unfolding service37
@@ -213,6 +230,7 @@ module _ (v : Seen) where
       go : 3 ≤ n → InOrder (suc n) 1 (part 1 1 ∷ part 4 (pathLength (v .payload)) ∷ [])
       go h = let k = fits in first-byte (omega arith) (place 2 4 (pathLength (v .payload)) (omega arith) (omega arith) done)
 
+  -- each of the fourteen, and every refusal
   placed-each : Each Serves v
   unfolding service3E
   placed-each = record {
@@ -234,13 +252,14 @@ module _ (v : Seen) where
   }
 
 module _ (limit : ℕ) (r : Request) where
+  -- an act that is placed in the frame
   abbrev Frame : Act → Type 0
   Frame a = Placed (length (r .inbound .frame)) (sidOf (r .inbound .frame)) a
 
   abbrev Answers : Answer → Type 0
   Answers a = Frame (a .act)
 
-  -- a frame that has a byte is as long as its payload and that byte
+  -- a request that is heard: a frame that has a byte is as long as its payload and that byte
   placed-heard : (s : State) (o : Option PendingRequest) → Answers (heard limit s r o)
   unfolding heard
   placed-heard s (some p) = unasked (length (r .inbound .frame)) (sidOf (r .inbound .frame))

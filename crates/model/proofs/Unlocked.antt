@@ -27,6 +27,7 @@ module _ (v : Seen) where
   abbrev Unlocked : ℕ → Served → Type 0
   Unlocked level a = a .act .number ≡ 0x27 → locked (v .security) level (v .now) ≡ false
 
+  -- a seed, and a key
   seed-unlocked : (level : ℕ) → Unlocked level (requestSeed v level)
   unfolding requestSeed
   seed-unlocked level = either-by (Unlocked level) (locked (v .security) level (v .now)) (λ t z. absurd (omega arith)) (λ t z. t)
@@ -35,6 +36,7 @@ module _ (v : Seen) where
   unfolding sendKey
   key-unlocked level = either-by (Unlocked level) (locked (v .security) level (v .now)) (λ t z. absurd (omega arith)) (λ t z. t)
 
+  -- by its access type
   service-unlocked : Unlocked (accessLevel (subFunction (v .payload))) (service27 v)
   unfolding service27 securityAccess
   service-unlocked =
@@ -51,9 +53,14 @@ module _ (v : Seen) where
   guarded-unlocked sid (some row) e = rw e (either (Unlocked (accessLevel (subFunction (v .payload)))) (allowedIn (v .session .sessionType) row) service-unlocked (λ z. absurd (omega arith)))
 
 module _ (limit : ℕ) (s : State) (r : Request) where
-  abbrev Free : Answer → Type 0
-  Free a = a .act .number ≡ 0x27 → locked (s .security) (accessLevel (subFunction (payloadOf (r .inbound .frame)))) (r .inbound .time) ≡ false
+  -- the level that is asked for is not locked
+  abbrev pub NotLocked : Type 0
+  NotLocked = locked (s .security) (accessLevel (subFunction (payloadOf (r .inbound .frame)))) (r .inbound .time) ≡ false
 
+  abbrev Free : Answer → Type 0
+  Free a = a .act .number ≡ 0x27 → NotLocked
+
+  -- a request that is heard
   heard-unlocked : (m : AddressMode) (o : Option PendingRequest) → sidOf (r .inbound .frame) ≡ 0x27 → Free (heard limit (received s m (r .inbound .time)) r o)
   unfolding heard
   heard-unlocked m (some p) e = λ z. absurd (omega arith)
@@ -71,7 +78,7 @@ module _ (limit : ℕ) (s : State) (r : Request) where
       mode none e = λ z. absurd (omega arith)
       mode (some m) e = heard-unlocked m (s .pending) e
 
-      go : (request limit s r .act .number ≡ 0) ⊎ (request limit s r .act .number ≡ sidOf (r .inbound .frame)) → locked (s .security) (accessLevel (subFunction (payloadOf (r .inbound .frame)))) (r .inbound .time) ≡ false
+      go : (request limit s r .act .number ≡ 0) ⊎ (request limit s r .act .number ≡ sidOf (r .inbound .frame)) → NotLocked
       go (inl e) = absurd (omega arith)
       go (inr e) =
           either Free (valid limit s)

@@ -50,6 +50,7 @@ module _ (v : Seen) where
   abbrev WholeServed : Served → Type 0
   WholeServed a = Whole (a .effect)
 
+  -- whatever its number is
   left-whole : (sid : ℕ) (a : Served) → WholeServed a → Left v sid a
   left-whole sid a h = record { lastRx = h .0; periodic = inl (h .1); counts = inl (record { failed = h .2; locks = h .3 }) }
 
@@ -81,6 +82,7 @@ module _ (v : Seen) where
   abbrev TimedServed : Served → Type 0
   TimedServed a = Timed (a .effect)
 
+  -- a key refused
   timed-denied : (level : ℕ) (row : Option SecurityLevelConfig) (o : Option (List Failed)) → Timed (denied v level row o)
   unfolding denied lockedOut
   timed-denied level row none = (refl, refl)
@@ -90,16 +92,19 @@ module _ (v : Seen) where
       go none = (refl, refl)
       go (some l) = (refl, refl)
 
+  -- a key accepted or refused
   timed-judged : (level : ℕ) (o : Outcome) → Timed (judged v level o)
   unfolding judged
   timed-judged level (bytes b) = (refl, refl)
   timed-judged level (error code) = timed-denied level (findLevel (v .config) level) (incrementFailed level (v .security .failed))
 
+  -- a seed given
   timed-seed : (level : ℕ) (row : SecurityLevelConfig) (o : Outcome) → Timed (seedGiven v level row o)
   unfolding seedGiven
   timed-seed level row (bytes b) = either Timed (eqb (length b) (row .seedLength)) (either Timed (ltb (length b) maxSeed) (refl, refl) (refl, refl)) (refl, refl)
   timed-seed level row (error code) = (refl, refl)
 
+  -- a seed asked, and a key sent
   timed-requestSeed : (level : ℕ) → TimedServed (requestSeed v level)
   unfolding requestSeed seedAsked
   timed-requestSeed level = either TimedServed (locked (v .security) level (v .now)) (refl, refl) (row (findLevel (v .config) level))
@@ -115,6 +120,7 @@ module _ (v : Seen) where
       (either TimedServed (awaits (v .security) level)
       (either TimedServed (keyFits (length (v .payload) - 1) (findLevel (v .config) level)) (timed-judged level (outcome (v .limit) (v .given))) (refl, refl)) (refl, refl))
 
+  -- 27 by its access type
   timed27 : TimedServed (service27 v)
   unfolding service27 securityAccess
   timed27 =
@@ -129,6 +135,7 @@ module _ (v : Seen) where
   abbrev pub SecureServed : Served → Type 0
   SecureServed a = Secure (a .effect)
 
+  -- the listed ones in turn, up to a refusal
   secure-register : (mode : ℕ) (ids : List ℕ) (t : List Subscription) → Secure (registerAll v mode ids t)
   secure-register mode [] t = (refl, refl)
   secure-register mode (b ∷ ids) t =
@@ -139,6 +146,7 @@ module _ (v : Seen) where
       go none ih = (refl, refl)
       go (some u) ih = ih u
 
+  -- 2A by its mode
   pub secure2A : SecureServed (service2A v)
   unfolding service2A transmission
   secure2A =
