@@ -13,7 +13,7 @@ use Rattle.model.specs.Config.{Config, findService}
 use Rattle.model.specs.Values.{given0, emptyTable}
 use Rattle.model.specs.Frame.{sidOf, negativeFrame}
 use Rattle.model.specs.State.{AddressMode, functional, Session, Security, Subscription, PendingRequest, State, step, valid, withQueue, freshState, received}
-use Rattle.model.specs.Request.{Request, Answer, seen, served, lengthFits, heard, addressed, routed, request}
+use Rattle.model.specs.Request.{Request, Answer, plain, seen, served, lengthFits, heard, addressed, routed, request}
 use Rattle.model.specs.Fixed.{fixedConfig}
 use Rattle.model.specs.Alike.{inbound, asking}
 use Rattle.model.proofs.Open.{whole}
@@ -55,6 +55,12 @@ pub foreign : (limit : ℕ) (s : State) (r : Request) → addressed (s .config) 
 unfolding request routed
 foreign limit s r a =
     rw a (either (λ (p : Answer). p .step .state ≡ s) (valid limit s) (either (λ (p : Answer). p .step .state ≡ s) (leb (r .inbound .time) maxTime) refl refl) refl)
+
+-- and of a valid state, at a time up to 2^48, it is done: no act, and result 0
+pub foreign-done : (limit : ℕ) (s : State) (r : Request) → valid limit s ≡ true → r .inbound .time ≤ maxTime → addressed (s .config) (r .inbound .dst) ≡ none
+    → request limit s r ≡ plain (step 0 s)
+unfolding request routed
+foreign-done limit s r v t a = rw (v, le-leb (r .inbound .time) maxTime t, a)
 
 -- such a request: with 16 frames held, 3E to the functional address at 5 meets 3, and is heard all the same
 abbrev full : State
