@@ -3,7 +3,7 @@ use Prim.Native.Nat.{ℕ, suc, _≤_, _<_}
 use mathlib.Core.Path.{_≡_, refl, ap}
 use mathlib.Core.Bool.{Bool, true, false, _&&_, false≢true}
 use mathlib.Core.List.{List, [], _∷_, _++_}
-use mathlib.Core.Option.{Option, some, none, Option·none-ne-some}
+use mathlib.Core.Option.{Option, some, none}
 use native.Mathlib.Omega.{arith}
 use lib.ListN.{length, length-append}
 use lib.Dec.{leb, ltb, eqb}
@@ -29,6 +29,11 @@ pub either : {A : Type 0} (P : A → Type 0) (b : Bool) {x y : A} → P x → P 
 either P true p q = p
 either P false p q = q
 
+-- so too where each has it if the test picks it
+pub either-by : {A : Type 0} (P : A → Type 0) (b : Bool) {x y : A} → (b ≡ true → P x) → (b ≡ false → P y) → P (pick b x y)
+either-by P true p q = p refl
+either-by P false p q = q refl
+
 -- a test over a list that grows by one, that has one changed, or that loses some
 pub all-snoc : {A : Type 0} (q : A → Bool) (l : List A) (a : A) → all q l ≡ true → q a ≡ true → all q (l ++ (a ∷ [])) ≡ true
 all-snoc q [] a h e = both e refl
@@ -44,17 +49,6 @@ all-without p q [] h = refl
 all-without p q (b ∷ l) h =
     let r : all q (without p l) ≡ true = all-without p q l (right (q b) (all q l) h) in
     either (λ m. all q m ≡ true) (p b) r (both (left (q b) (all q l) h) r)
-
--- an entry changed or added keeps a test that the change keeps and the new one passes
-pub all-enter : {A : Type 0} (most : ℕ) (p q : A → Bool) (f : A → A) (new : A) (l m : List A) → ((a : A) → q a ≡ true → q (f a) ≡ true) → q new ≡ true → all q l ≡ true
-    → enter most p f new l ≡ some m → all q m ≡ true
-unfolding enter
-all-enter most p q f new l m k n h e = go (any p l) (ltb (length l) most) e
-  where
-    go : (a b : Bool) → pick a (some (changeFirst p f l)) (pick b (some (l ++ (new ∷ []))) none) ≡ some m → all q m ≡ true
-    go true b z = let g : changeFirst p f l ≡ m = cc in rw (← g) (all-change p q f l k h)
-    go false true z = let g : l ++ (new ∷ []) ≡ m = cc in rw (← g) (all-snoc q l new h n)
-    go false false z = absurd (Option·none-ne-some m z)
 
 -- one of two by the same test on both sides, where the two pairs are related
 pub alike : {A B : Type 0} (R : A → B → Type 0) (b : Bool) {x y : A} {z w : B} → R x z → R y w → R (pick b x y) (pick b z w)
@@ -88,15 +82,12 @@ abbrev pub IfSome : {A : Type 0} → (A → Type 0) → Option A → Type 0
 IfSome P none = Unit {0}
 IfSome P (some a) = P a
 
--- what holds of the list with one changed, and of the list with one more where there is room, holds of what `enter` gives
+-- what holds of the list with one changed, and of the list with one more where none passes and there is room, holds of what `enter` gives
 pub enter-gives : {A : Type 0} (P : List A → Type 0) (most : ℕ) (p : A → Bool) (f : A → A) (new : A) (l : List A)
-    → P (changeFirst p f l) → (length l < most → P (l ++ (new ∷ []))) → IfSome P (enter most p f new l)
+    → P (changeFirst p f l) → (any p l ≡ false → length l < most → P (l ++ (new ∷ []))) → IfSome P (enter most p f new l)
 unfolding enter
-enter-gives P most p f new l c g = either (IfSome P) (any p l) c (go (ltb (length l) most) refl)
-  where
-    go : (b : Bool) → ltb (length l) most ≡ b → IfSome P (pick b (some (l ++ (new ∷ []))) none)
-    go true e = g (ltb-true (length l) most e)
-    go false e = tt
+enter-gives P most p f new l c g =
+    either-by (IfSome P) (any p l) (λ s. c) (λ n. either-by (IfSome P) (ltb (length l) most) (λ r. g n (ltb-true (length l) most r)) (λ r. tt))
 
 -- a list that `enter` gives keeps the bound on its length
 pub enter-length : {A : Type 0} (most : ℕ) (p : A → Bool) (f : A → A) (new : A) (l : List A)
@@ -104,7 +95,7 @@ pub enter-length : {A : Type 0} (most : ℕ) (p : A → Bool) (f : A → A) (new
 enter-length most p f new l h =
     enter-gives (λ m. leb (length m) most ≡ true) most p f new l
     (rw length-changeFirst h)
-    (λ r. le-leb (length (l ++ (new ∷ []))) most (rw length-append (omega arith)))
+    (λ n r. le-leb (length (l ++ (new ∷ []))) most (rw length-append (omega arith)))
 
 -- and a test that all pass, that the change keeps and that the new one passes
 pub enter-within : {A : Type 0} (most : ℕ) (q p : A → Bool) (f : A → A) (new : A) (l : List A)
@@ -115,7 +106,7 @@ enter-within most q p f new l k n h =
     let good = within-all most q l h in
     enter-gives (λ m. tableWithin most q m ≡ true) most p f new l
     (table-within most q (changeFirst p f l) (rw length-changeFirst short) (all-change p q f l k good))
-    (λ r. table-within most q (l ++ (new ∷ [])) (rw length-append (omega arith)) (all-snoc q l new good n))
+    (λ z r. table-within most q (l ++ (new ∷ [])) (rw length-append (omega arith)) (all-snoc q l new good n))
 
 -- a property of each of some numbers
 abbrev pub Each : (ℕ → Type 0) → List ℕ → Type 0

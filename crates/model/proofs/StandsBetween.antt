@@ -12,7 +12,7 @@ use borrow.Author.Tests.{leb-true}
 use Rattle.model.specs.Tests.{all}
 use Rattle.model.specs.Numbers.{Moment}
 use Rattle.model.specs.Config.{Config, ServiceConfig, findDid, findService, levelOf}
-use Rattle.model.specs.Values.{Given, given0, Table, emptyTable, value}
+use Rattle.model.specs.Values.{Given, given0, Table, emptyTable}
 use Rattle.model.specs.Frame.{payloadOf, sidOf}
 use Rattle.model.specs.State.{Subscription, PendingRequest, AddressMode, State, received, fresh}
 use Rattle.model.specs.Service.{Seen}
@@ -25,7 +25,7 @@ use Rattle.model.proofs.Laws.{left, right}
 use Rattle.model.proofs.Blind.{seeing, blind27}
 use Rattle.model.proofs.Secret.{value-alike, alike-service}
 use Rattle.model.proofs.Page.{onPage, Paged}
-use Rattle.model.proofs.Kept.{Kept, kept-s3, kept-refreshed, kept-call, kept-fresh}
+use Rattle.model.proofs.Kept.{Kept, kept-refreshed, kept-call, kept-fresh}
 
 -- what a service sees does not tell which of two tables is at hand
 module _ (x level : ℕ) (t u : Table) (alike : AlikeTable x t u) where
@@ -88,7 +88,7 @@ module _ (x level : ℕ) (t u : Table) (alike : AlikeTable x t u) where
     unfolding tick thenPeriodic
     alike-tick c s k =
         let p = refreshed (s3 s now) now (s .pending) in
-        rw (alike-all (p .state .periodic) (begins (p .state)) (kept-refreshed c (s3 s now) now (s .pending) (kept-s3 c s now k) .state .page))
+        rw (alike-all (p .state .periodic) (begins (p .state)) (kept-refreshed c s now k .page))
 
 -- the empty table is like itself
 alike-empty : (x : ℕ) → AlikeTable x emptyTable emptyTable

@@ -63,7 +63,7 @@ module _ (limit : ℕ) (s : State) (r : Request) (m : AddressMode) (a : Arrives 
   abbrev pub found : State
   found = received s m (r .inbound .time)
 
-  arrives : request limit s r ≡ carried limit found (r .inbound) (served limit found r)
+  pub arrives : request limit s r ≡ carried limit found (r .inbound) (served limit found r)
   unfolding request routed heard
   arrives = rw (a .valid, le-leb _ _ (a .time), a .addressed, a .idle, le-leb _ _ (a .some-bytes), le-leb _ _ (a .few-bytes))
 
@@ -136,7 +136,8 @@ abbrev Short : Iso.Shortest → Type 0
 Short q = Iso.listed answersShorter (q .service) ≡ false → (v : Seen) → suc (length (v .payload)) < q .bytes
     → Refuses (service (q .service) v) Iso.incorrectMessageLengthOrInvalidFormat
 
--- a request that is too short for its service is incorrectMessageLengthOrInvalidFormat, in eleven of the fourteen
+-- a request that is too short for its service is incorrectMessageLengthOrInvalidFormat, in ten of the fourteen; of 37 none is too short, since its shortest is the
+-- service byte alone, and the three of `answersShorter` are left out
 pub too-short : Iso.Every Short Iso.shortestRequests
 unfolding service service10 service11 service22 service27 service28 service2A service2E service2F service31 service36
 too-short = (

@@ -1,4 +1,4 @@
--- The services with a sub-function, and the session's end by S3, against ISO 14229-1.
+-- The services with a sub-function, against ISO 14229-1 (27 is in `Iso/Security`, the session's end by S3 in `Iso/Time`).
 use Prim.Native.Nat.{ℕ, suc, _/_, _%_, _≤_, _<_}
 use mathlib.Core.Path.{_≡_, refl, ap, ap₂}
 use mathlib.Core.Bool.{Bool}

@@ -11,7 +11,7 @@ use lib.Dec.{leb, ltb, eqb}
 use borrow.Author.Tests.{ltb-false, le-ltb}
 use Rattle.model.specs.Tests.{pick, memb}
 use Rattle.model.specs.Numbers.{Moment, maxOutbox}
-use Rattle.model.specs.Config.{findSession, p2ExtOf}
+use Rattle.model.specs.Config.{Config, findSession, p2ExtOf}
 use Rattle.model.specs.State.{AddressMode, physical, functional, Session, Security, Subscription, PendingRequest, State, Step, step, withQueue, withPending}
 use Rattle.model.specs.Reply.{Reply, silent, positive, negative, always, pends, queued, withheld, refused, confirmed, begun, replied}
 use Rattle.model.specs.Frame.{positiveFrame, negativeFrame}
@@ -73,17 +73,19 @@ physical-sent s to sid code m = rw m refl
 abbrev pub Full : State → Step → Type 0
 Full s p = p .result ≡ 3 → (p .state .queue ≡ s .queue) × (maxOutbox ≤ length (s .queue))
 
--- what a reply gives and leaves: 0 or 3; the session, security and subscriptions as they were; and the queue too where it is 3
+-- what a reply gives and leaves: 0 or 3; all but the pending request and the queue as it was; and the queue too where it is 3
 pub record Answered (s : State) (p : Step) : Type 0 where
   pub result : memb (p .result) (0 ∷ 3 ∷ []) ≡ true
   pub full : Full s p
+  pub config : p .state .config ≡ s .config
+  pub mode : p .state .mode ≡ s .mode
   pub session : p .state .session ≡ s .session
   pub security : p .state .security ≡ s .security
   pub periodic : p .state .periodic ≡ s .periodic
 
 -- done, and nothing changed
 pub done-answered : (s : State) → Answered s (step 0 s)
-done-answered s = record { result = refl; full = λ z. absurd (omega arith); session = refl; security = refl; periodic = refl }
+done-answered s = record { result = refl; full = λ z. absurd (omega arith); config = refl; mode = refl; session = refl; security = refl; periodic = refl }
 
 -- so a frame that is queued
 pub queued-answered : (s : State) (to : ℕ) (b : List ℕ) → Answered s (queued s to b)
@@ -91,8 +93,8 @@ unfolding queued
 queued-answered s to b = go (ltb (length (s .queue)) maxOutbox) refl
   where
     go : (t : Bool) → ltb (length (s .queue)) maxOutbox ≡ t → Answered s (pick t (step 0 (withQueue s (s .queue ++ (record { dst = to; bytes = b } ∷ [])))) (step 3 s))
-    go true e = record { result = refl; full = λ z. absurd (omega arith); session = refl; security = refl; periodic = refl }
-    go false e = record { result = refl; full = λ z. (refl, ltb-false (length (s .queue)) maxOutbox e); session = refl; security = refl; periodic = refl }
+    go true e = record { result = refl; full = λ z. absurd (omega arith); config = refl; mode = refl; session = refl; security = refl; periodic = refl }
+    go false e = record { result = refl; full = λ z. (refl, ltb-false (length (s .queue)) maxOutbox e); config = refl; mode = refl; session = refl; security = refl; periodic = refl }
 
 -- a negative code, withheld or not
 pub refused-answered : (s : State) (to sid code : ℕ) → Answered s (refused s to sid code)
@@ -106,7 +108,7 @@ confirmed-answered limit s to sid p = either (Answered s) (leb (suc (length p)) 
 
 -- another pending request makes no difference to that
 pub pending-answered : (s : State) (q : Option PendingRequest) (p : Step) → Answered (withPending s q) p → Answered s p
-pending-answered s q p a = record { result = a .result; full = a .full; session = a .session; security = a .security; periodic = a .periodic }
+pending-answered s q p a = record { result = a .result; full = a .full; config = a .config; mode = a .mode; session = a .session; security = a .security; periodic = a .periodic }
 
 -- a request that becomes pending
 pub begun-answered : (s : State) (to sid : ℕ) (now : Moment) → Answered s (begun s to sid now)
@@ -124,6 +126,26 @@ replied-answered limit s to sid now (positive p) = confirmed-answered limit s to
 replied-answered limit s to sid now (negative code) = refused-answered s to sid code
 replied-answered limit s to sid now (always code) = queued-answered s to (negativeFrame sid code)
 replied-answered limit s to sid now pends = begun-answered s to sid now
+
+-- what is said of a state apart from its pending request and its queue
+abbrev pub On : (Config → AddressMode → Session → Security → List Subscription → Type 0) → State → Type 0
+On Q s = Q (s .config) (s .mode) (s .session) (s .security) (s .periodic)
+
+-- holds after a reply if it held before
+pub answered-on : (Q : Config → AddressMode → Session → Security → List Subscription → Type 0) {s : State} {p : Step} → Answered s p → On Q s → On Q (p .state)
+answered-on Q a h = rw (a .config, a .mode, a .session, a .security, a .periodic) h
+
+-- and after an effect if it held before, and holds with the effect's three records
+pub apply-on : (Q : Config → AddressMode → Session → Security → List Subscription → Type 0) (limit : ℕ) (s : State) (to sid : ℕ) (now : Moment) (e : Effect)
+    → On Q s → On Q (changed s e) → On Q (apply limit s to sid now e .state)
+unfolding apply changedAfter
+apply-on Q limit s to sid now e h k =
+    either (λ (p : Step). On Q (p .state)) (e .waits)
+    (either (λ (p : Step). On Q (p .state)) (eqb (replied limit s to sid now (e .reply) .result) 0) (rw (a .config, a .mode) k) (answered-on Q a h))
+    (answered-on Q (replied-answered limit (changed s e) to sid now (e .reply)) k)
+  where
+    a : Answered s (replied limit s to sid now (e .reply))
+    a = replied-answered limit s to sid now (e .reply)
 
 -- a step gives one of some numbers, and 3 leaves the queue as it was, with 16 frames held
 pub record Gives (ns : List ℕ) (s : State) (p : Step) : Type 0 where

@@ -2,25 +2,25 @@
 use Prim.Native.Nat.{ℕ, _≤_, _<_, _+_, _-_, _%_}
 use mathlib.Core.Path.{_≡_, refl}
 use mathlib.Core.Bool.{Bool, true, false, _&&_}
-use mathlib.Core.List.{List, [], _∷_}
+use mathlib.Core.List.{List, _∷_}
 use mathlib.Core.Option.{Option, some, none}
 use native.Mathlib.Omega.{arith}
-use lib.ListN.{length, getD, drop}
+use lib.ListN.{length}
 use lib.Dec.{leb, ltb, eqb, lit<}
 use borrow.Author.Tests.{ltb-true, lt-ltb, le-leb}
 use Rattle.model.specs.Tests.{pick, without}
 use Rattle.model.specs.Numbers.{Moment, Span, maxTime, maxSpan, maxPeriodic, maxLevels, maxSeed}
-use Rattle.model.specs.Config.{SessionConfig, ServiceConfig, SecurityLevelConfig, within, tableWithin, findSession, findDid, findLevel, lockoutOf, maxAttemptsOf, readable}
+use Rattle.model.specs.Config.{SessionConfig, ServiceConfig, SecurityLevelConfig, within, tableWithin, findSession, findLevel, lockoutOf, maxAttemptsOf}
 use Rattle.model.specs.Values.{Outcome, bytes, error, outcome}
 use Rattle.model.specs.Frame.{subFunction, periodicDid}
 use Rattle.model.specs.State.{Security, Failed, Lock, Subscription, momentValid, lockValid, securityValid, subscriptionValid, cleared}
 use Rattle.model.specs.Reply.{Reply, positive, negative}
-use Rattle.model.specs.Service.{Seen, Effect, Served, says, secures, schedules}
+use Rattle.model.specs.Service.{Seen, Effect, Served, says, secures}
 use Rattle.model.specs.Service3E.{service3E}
 use Rattle.model.specs.Service10.{service10, sessionControl}
 use Rattle.model.specs.Service11.{service11, reset}
 use Rattle.model.specs.Service27.{service27, securityAccess, requestSeed, seedAsked, seedGiven, sendKey, judged, denied, lockedOut, locked, awaits, keyFits, isFailed, isLock, raise, relock, incrementFailed, setLockout, failedCount, accepted, seeded}
-use Rattle.model.specs.Service2A.{service2A, transmission, registerAll, registered, register, cancelAll, renewed, subscription, intervalFor, rateOf, isSubscription}
+use Rattle.model.specs.Service2A.{service2A, register, renewed, subscription, intervalFor, rateOf, isSubscription}
 use Rattle.model.specs.Service22.{service22}
 use Rattle.model.specs.Service2E.{service2E}
 use Rattle.model.specs.Service31.{service31}
@@ -30,11 +30,13 @@ use Rattle.model.specs.Service34.{service34}
 use Rattle.model.specs.Service36.{service36}
 use Rattle.model.specs.Service37.{service37}
 use Rattle.model.specs.Service38.{service38}
-use Rattle.model.specs.Request.{service, guarded}
+use Rattle.model.specs.Request.{guarded}
 use Rattle.model.proofs.Dispatch.{Each, at-guarded}
 use Rattle.model.proofs.Laws.{both, left, right, either, IfSome, enter-length, enter-within, length-changeFirst, length-without, all-without, within-length, within-all, table-within}
 use Rattle.model.proofs.Valid.Parts.{Subscribed, minInterval-below, lockout-below, later-valid}
 use Rattle.model.proofs.Valid.Replies.{Fits}
+use Rattle.model.proofs.Subscribing.{subscribing}
+use Rattle.model.proofs.Untouched.{secure2A}
 use Rattle.model.proofs.OnlyReplies.{Replies, only3E, only22, only2E, only31, only28, only2F, only34, only36, only37, only38}
 
 -- what a service sees keeps the numbers
@@ -195,10 +197,6 @@ module _ (v : Seen) (h : Sound v) where
       (either FitsServed (eqb (subFunction (v .payload)) 0) says-fits
       (either FitsServed (eqb (subFunction (v .payload) % 2) 1) (seedAsked-fits (subFunction (v .payload))) (sendKey-fits (subFunction (v .payload) - 1))))
 
-  -- 2A: another table of subscriptions that keeps its bound
-  schedules-fits : {t : List Subscription} {r : Reply} → Subscribed t → Fits (schedules v t r)
-  schedules-fits e = record { lastRx = h .lastRx; security = h .security; periodic = e }
-
   -- the three rates, and the larger of rate and minimum, are below 2^32
   rate-below : (mode : ℕ) → rateOf mode < maxSpan
   rate-below mode = either (λ n. n < maxSpan) (eqb mode 1) (lit< tt) (either (λ n. n < maxSpan) (eqb mode 2) (lit< tt) (lit< tt))
@@ -219,48 +217,26 @@ module _ (v : Seen) (h : Sound v) where
       good : (ltb interval maxSpan && momentValid (v .now + interval)) ≡ true
       good = both (lt-ltb interval maxSpan (interval-below mode (periodicDid b))) (later-valid (v .now) interval (h .now) (interval-below mode (periodicDid b)))
 
-  -- the listed ones in turn, up to a refusal
-  registerAll-fits : (mode : ℕ) (ids : List ℕ) (t : List Subscription) → Subscribed t → Fits (registerAll v mode ids t)
-  registerAll-fits mode [] t e = schedules-fits e
-  registerAll-fits mode (b ∷ ids) t e =
-      either Fits (readable (v .session .sessionType) (findDid (v .config) (periodicDid b)))
-      (on (register (periodicDid b) (v .src) (intervalFor v (rateOf mode) (periodicDid b)) (v .now) t) (register-fits mode b t e) (registerAll-fits mode ids))
-      (schedules-fits e)
-    where
-      on : (o : Option (List Subscription)) → IfSome Subscribed o
-          → ((u : List Subscription) → Subscribed u → Fits (registerAll v mode ids u)) → Fits (registered v t o (registerAll v mode ids))
-      on none p f = schedules-fits e
-      on (some u) p f = f u p
-
-  -- the listed ones cancelled
-  cancelAll-within : (client : ℕ) (ids : List ℕ) (t : List Subscription) → Subscribed t → Subscribed (cancelAll client ids t)
-  cancelAll-within client [] t e = e
-  cancelAll-within client (b ∷ ids) t e =
-      cancelAll-within client ids (without mine t)
-      (table-within maxPeriodic subscriptionValid (without mine t) fewer (all-without mine subscriptionValid t (within-all maxPeriodic subscriptionValid t e)))
+  -- one cancelled
+  cancels-within : (b : ℕ) (t : List Subscription) → Subscribed t → Subscribed (without (isSubscription (periodicDid b) (v .src)) t)
+  cancels-within b t e = table-within maxPeriodic subscriptionValid (without mine t) fewer (all-without mine subscriptionValid t (within-all maxPeriodic subscriptionValid t e))
     where
       mine : Subscription → Bool
-      mine = isSubscription (periodicDid b) client
+      mine = isSubscription (periodicDid b) (v .src)
 
       fewer : length (without mine t) ≤ maxPeriodic
       fewer = let a = length-without mine t in let b = within-length maxPeriodic subscriptionValid t e in omega arith
 
-  -- 2A by its mode
+  -- 2A, which changes no other record
   fits2A : FitsServed (service2A v)
-  unfolding service2A transmission
-  fits2A =
-      either FitsServed (ltb (length (v .payload)) 1) says-fits
-      (either FitsServed (eqb mode 4) (schedules-fits (cancelAll-within (v .src) ids (v .periodic) (h .periodic)))
-      (either FitsServed (leb 1 mode && leb mode 3) (registerAll-fits mode ids (v .periodic) (h .periodic)) says-fits))
-    where
-      mode : ℕ
-      mode = getD (v .payload) 0 0
-
-      ids : List ℕ
-      ids = drop 1 (v .payload)
+  fits2A = record {
+    lastRx = rw (secure2A v .0) (h .lastRx);
+    security = rw (secure2A v .1) (h .security);
+    periodic = subscribing Subscribed v (h .periodic) (record { enters = register-fits; cancels = cancels-within });
+  }
 
   -- any of the fourteen, refusals included
-  fits-each : Each FitsServed v
+  fits-each : Each (λ sid. FitsServed) v
   fits-each = record {
     at3E = only-fits (service3E v) (only3E v);
     at10 = fits10;
@@ -276,9 +252,9 @@ module _ (v : Seen) (h : Sound v) where
     at36 = only-fits (service36 v) (only36 v);
     at37 = only-fits (service37 v) (only37 v);
     at38 = only-fits (service38 v) (only38 v);
-    refused = λ code. says-fits;
+    refused = λ sid code. says-fits;
   }
 
   -- what a frame's service answers
   pub guarded-fits : (sid : ℕ) (row : Option ServiceConfig) → FitsServed (guarded sid v row)
-  guarded-fits = at-guarded FitsServed v fits-each
+  guarded-fits = at-guarded (λ sid. FitsServed) v fits-each
