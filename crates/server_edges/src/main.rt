@@ -1,7 +1,10 @@
-// A server at the edges of its numbers: fresh, drained, and handed in with a state that is valid or just not. Of a fresh server a line has the
-// result, both addresses, session, level, subscriptions and waiting frames; of a drain the result, how many frames were written, how many
-// wait then, and the buffer, which held EE. What it must write was worked out by hand from the rules in docs/PROMISES.md.
+// A server at the edges of its numbers: fresh, drained, and handed in with a state that is valid or just not; then its lists of levels, and
+// effects carried out. Of a fresh server a line has the result, both addresses, session, level, subscriptions and waiting frames; of a drain the
+// result, how many frames were written, how many wait then, and the buffer, which held EE; of an effect the result, session, waiting frames,
+// whether a request is pending, and its deadline. What it must write was worked out by hand from the rules in docs/PROMISES.md.
 mod edges;
+mod effects;
+mod levels;
 mod show;
 
 use config::Config;
@@ -60,4 +63,7 @@ fn main() {
     edges::moments(v);
     edges::counts(v);
     edges::frames(v);
+    levels::run();
+    let c = v.config;
+    effects::run(&c);
 }

@@ -1,14 +1,23 @@
 // What the test writes.
 use libc::STDOUT_FILENO;
 use server::fresh::Server;
+use server::security::SecurityState;
 
 pub(crate) fn text(t: &[u8]) {
     io::write_all(STDOUT_FILENO, t);
 }
 
-fn number(n: u64) {
+pub(crate) fn number(n: u64) {
     text(b" ");
     io::print_decimal(STDOUT_FILENO, n);
+}
+
+pub(crate) fn flag(b: bool) {
+    if b {
+        number(1);
+        return;
+    }
+    number(0);
 }
 
 fn hex(b: u8) {
@@ -50,4 +59,12 @@ pub(crate) fn drain(v: Server, out: &mut [u8]) -> Server {
     number(state.frames as u64);
     bytes(out);
     left
+}
+
+// The level that a seed awaits its key for, the seed's length, and all 32 bytes that may hold one.
+pub(crate) fn seed(k: SecurityState) {
+    number(k.seed_level as u64);
+    number(k.seed_len as u64);
+    let all = k.seed;
+    bytes(&all);
 }
