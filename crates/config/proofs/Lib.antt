@@ -4,3 +4,4 @@ pub mod Grown
 pub mod NewRows
 pub mod Building
 pub mod RoundTrip
+pub mod Settled

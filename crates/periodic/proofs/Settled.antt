@@ -12,9 +12,10 @@ use borrow.Author.Tests.{eqb-true, eqb-false}
 use Rattle.model.specs.Numbers.{Moment, Span, maxPeriodic}
 use Rattle.model.specs.State.{Subscription, freshPeriodic}
 use Rattle.uds.specs.declared.table.Found.{Found}
-use Rattle.uds.specs.declared.table.Found.the-variants.{At, Nothing}
+use Rattle.uds.specs.declared.table.Found.the-variants.{Nothing}
 use Rattle.uds.specs.Table.{placeOf}
 use Rattle.uds.proofs.Tab.{tab-same, tab-length}
+use Rattle.uds.proofs.Settled as Settled
 use Rattle.periodic.specs.declared.PeriodicEntry.{PeriodicEntry}
 use Rattle.periodic.specs.declared.PeriodicState.{PeriodicState}
 use Rattle.periodic.specs.declared.Registered.{Registered}
@@ -31,13 +32,7 @@ said e e' = e ∙ sym e'
 
 -- find: the place
 pub found : (r r' : Found) (o : Option ℕ) → placeOf r ≡ o → placeOf r' ≡ o → r ≡ r'
-found r r' o e e' = same r r' (e ∙ sym e')
-  where
-    same : (r r' : Found) → placeOf r ≡ placeOf r' → r ≡ r'
-    same (At i) (At j) e = let z : i ≡ j = cc in ap At z
-    same (At i) Nothing e = absurd (Option·some-ne-none i e)
-    same Nothing (At j) e = absurd (Option·none-ne-some j e)
-    same Nothing Nothing e = refl
+found r r' o e e' = Settled.found e e'
 
 -- entry_at: all four numbers
 pub entry : (r r' : PeriodicEntry) (e : Subscription) → entryOf r ≡ e → entryOf r' ≡ e → r ≡ r'

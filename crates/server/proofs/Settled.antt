@@ -1,4 +1,5 @@
--- Nothing else meets the promises: two answers that meet one are equal in all that it speaks of.
+-- Nothing else meets the promises: two answers that meet one are equal in all that it speaks of. A test or a number (is_valid in its three places,
+-- is_locked, failed_count) is its promise, by `said` of `uds`.
 use Prim.Native.Nat.{ℕ}
 use mathlib.Core.Path.{_≡_, refl, ap, ap₂, sym, _∙_}
 use mathlib.Core.Bool.{Bool, true, false, false≢true}
@@ -9,6 +10,7 @@ use Rattle.model.specs.Tests.{pick}
 use Rattle.model.specs.State as Model
 use Rattle.model.specs.State.{AddressMode, physical, functional, Session, Security}
 use Rattle.model.specs.Drain as Drain
+use Rattle.uds.proofs.Settled.{said}
 use Rattle.uds.proofs.Tab.{tab-length}
 use Rattle.queue.specs.View.{frameAt, modeOf}
 use Rattle.periodic.specs.View.{entryAt}
@@ -23,10 +25,6 @@ use Rattle.server.specs.declared.security.SecurityState.{SecurityState}
 use Rattle.server.specs.declared.state.PendingRequest.{PendingRequest}
 use Rattle.server.specs.declared.state.SessionState.{SessionState}
 use Rattle.server.specs.declared.state.State.{State}
-
--- is_valid in its three places, is_locked, failed_count: the promise is the answer
-pub said : {A : Type 0} {r r' x : A} → r ≡ x → r' ≡ x → r ≡ r'
-said e e' = e ∙ sym e'
 
 -- SessionState::new, opened, unlocked: all of it
 pub session : {r r' : SessionState} {a : Session} → sessionOf r ≡ a → sessionOf r' ≡ a → r ≡ r'

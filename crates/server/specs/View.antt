@@ -97,7 +97,7 @@ pub record Clears (k r : SecurityState) : Type 0 where
 
 -- a seed of at most 32 bytes that awaits its key
 pub record Seeds (k : SecurityState) (level : ℕ) (seed : List ℕ) (r : SecurityState) : Type 0 where
-  pub state : securityOf r ≡ pick (leb (length seed) 32) (seeded (securityOf k) level seed) (cleared (securityOf k))
+  pub state : securityOf r ≡ pick (leb (length seed) maxSeed) (seeded (securityOf k) level seed) (cleared (securityOf k))
 
 abbrev pub sessionOf : SessionState → Session
 sessionOf a = record { sessionType = a .«session_type»; level = a .level; lastRx = a .«last_rx» .0 }

@@ -5,3 +5,4 @@ pub mod Tables
 pub mod Readings
 pub mod Paste
 pub mod Times
+pub mod Settled

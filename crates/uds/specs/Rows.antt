@@ -1,6 +1,7 @@
 -- The program's records as the definition's rows.
 use Prim.Native.Nat.{ℕ, _≤_}
 use mathlib.Core.Path.{_≡_}
+use mathlib.Core.Bool.{false}
 use mathlib.Core.List.{List, []}
 use lib.ListN.{length, getD}
 use Rattle.model.specs.Numbers.{maxListed, defaultP2, defaultP2Ext, defaultS3}
@@ -52,6 +53,12 @@ levelOf r = record {
 abbrev pub presetSession : ℕ → Model.SessionConfig
 presetSession x = record { sessionType = x; p2 = defaultP2; p2Ext = defaultP2Ext; s3 = defaultS3 }
 
+-- a service that is allowed in these sessions, with a level that no rule reads
+pub record ServiceIs (x : ℕ) (allowed : List ℕ) (secured : ℕ) (r : ServiceConfig) : Type 0 where
+  pub service : r .«service_id» ≡ x
+  pub sessions : Lists allowed (r .«supported_in»)
+  pub level : r .«security_level» ≡ secured
+
 -- an identifier that is read and written in these sessions, without a level, at most every 50 ms
 pub record DidIs (x : ℕ) (readable writable : List ℕ) (r : DidConfig) : Type 0 where
   pub identifier : r .identifier ≡ x
@@ -59,6 +66,7 @@ pub record DidIs (x : ℕ) (readable writable : List ℕ) (r : DidConfig) : Type
   pub writes : Lists writable (r .«writable_in»)
   pub level : r .«security_level» ≡ 0
   pub interval : r .«min_periodic_interval» .0 ≡ 50
+  pub periodic : r .periodic ≡ false
 
 -- the same at another interval, and at another level
 abbrev pub atLeast : Model.DidConfig → ℕ → Model.DidConfig

@@ -1,11 +1,12 @@
 // The rows of a configuration as records, with the Rust's presets. What each means is a row of the definition.
 ghost use mathlib.Core.Path.{_≡_};
+ghost use mathlib.Core.Bool.{true};
 ghost use mathlib.Core.List.{[]};
 ghost use lib.ListN.{length};
 ghost use lib.Dec.{leb};
 ghost use Rattle.model.specs.Numbers.{maxListed};
 ghost use Rattle.model.specs.Config as Model;
-ghost use Rattle.uds.specs.Rows.{Lists, listOf, sessionOf, serviceOf, didOf, levelOf, presetSession, DidIs, atLeast, securedBy};
+ghost use Rattle.uds.specs.Rows.{Lists, listOf, sessionOf, serviceOf, didOf, levelOf, presetSession, ServiceIs, DidIs, atLeast, securedBy};
 use super::clock::Duration;
 use super::nrc::DEFAULT_P2;
 use super::nrc::DEFAULT_P2_EXT;
@@ -121,7 +122,7 @@ pub struct ServiceConfig {
 
 impl ServiceConfig {
     pub fn new(service_id: u8, supported_in: &[u8]) -> ServiceConfig
-        ensures { λ r. ⌜ (serviceOf r .serviceId ≡ «service_id») × (Lists (now («supported_in» .entry)) (r .«supported_in»)) ⌝ }
+        ensures { λ r. ⌜ ServiceIs «service_id» (now («supported_in» .entry)) 0 r ⌝ }
     {
         ServiceConfig {
             service_id,
@@ -131,7 +132,7 @@ impl ServiceConfig {
     }
 
     pub fn secured(service_id: u8, supported_in: &[u8], security_level: u8) -> ServiceConfig
-        ensures { λ r. ⌜ (serviceOf r .serviceId ≡ «service_id») × (Lists (now («supported_in» .entry)) (r .«supported_in»)) × (r .«security_level» ≡ «security_level») ⌝ }
+        ensures { λ r. ⌜ ServiceIs «service_id» (now («supported_in» .entry)) «security_level» r ⌝ }
     {
         ServiceConfig {
             service_id,
@@ -186,7 +187,7 @@ impl DidConfig {
     }
 
     pub fn periodic(mut self, min_interval: Duration) -> DidConfig
-        ensures { λ r. ⌜ didOf r ≡ atLeast (didOf self) («min_interval» .0) ⌝ }
+        ensures { λ r. ⌜ (didOf r ≡ atLeast (didOf self) («min_interval» .0)) × (r .periodic ≡ true) ⌝ }
     {
         self.periodic = true;
         self.min_periodic_interval = min_interval;
@@ -194,7 +195,7 @@ impl DidConfig {
     }
 
     pub fn secured(mut self, level: u8) -> DidConfig
-        ensures { λ r. ⌜ didOf r ≡ securedBy (didOf self) level ⌝ }
+        ensures { λ r. ⌜ (didOf r ≡ securedBy (didOf self) level) × (r .periodic ≡ self .periodic) ⌝ }
     {
         self.security_level = level;
         self
