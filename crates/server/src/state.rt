@@ -32,23 +32,18 @@ impl SessionState {
     pub fn opened(self, session_type: u8) -> SessionState
         ensures { λ r. ⌜ sessionOf r ≡ Model.opened (sessionOf self) «session_type» ⌝ }
     {
-        let last_rx = self.last_rx;
-        SessionState {
-            last_rx,
-            session_type,
-            level: 0,
-        }
+        let mut next = self;
+        next.session_type = session_type;
+        next.level = 0;
+        next
     }
 
     pub fn unlocked(self, level: u8) -> SessionState
         ensures { λ r. ⌜ sessionOf r ≡ Model.unlocked (sessionOf self) level ⌝ }
     {
-        let last_rx = self.last_rx;
-        SessionState {
-            last_rx,
-            session_type: self.session_type,
-            level,
-        }
+        let mut next = self;
+        next.level = level;
+        next
     }
 }
 
