@@ -1,0 +1,163 @@
+// The clock, the codes, the rules of frames and the value table, each at its edges. What it must write was worked out by hand from the rules in
+// docs/PROMISES.md. Codes and bytes are in hex, other numbers decimal.
+mod show;
+
+use show::flag;
+use show::hex;
+use show::number;
+use show::outcome;
+use show::text;
+use uds::clock::Duration;
+use uds::clock::Instant;
+use uds::frame;
+use uds::nrc::Nrc;
+use uds::nrc::Rate;
+use uds::values;
+
+// Sums at and past the last moment, differences after a clock that went forth and back, and the three comparisons.
+fn clock() {
+    let last = Instant(Instant::LAST);
+    text(b"clock:");
+    number(Instant(5).plus(Duration(3)).0);
+    number(last.plus(Duration(1)).0);
+    number(Instant(8).since(Instant(5)).0);
+    number(Instant(5).since(Instant(8)).0);
+    flag(Instant(5).is_before(Instant(5)));
+    flag(Instant(5).is_before(Instant(6)));
+    flag(Duration(5).exceeds(Duration(5)));
+    flag(Duration(6).exceeds(Duration(5)));
+    number(Duration(5).larger(Duration(6)).0);
+    text(b"\n");
+}
+
+// Every code that is withheld after a functional request, and the three rates.
+fn codes() {
+    text(b"withheld:");
+    let mut code: u8 = 0;
+    while code < 255 {
+        code += 1;
+        if Nrc(code).withheld() {
+            hex(code);
+        }
+    }
+    text(b"\nrates:");
+    number(Rate(1).interval().0);
+    number(Rate(2).interval().0);
+    number(Rate(3).interval().0);
+    text(b"\n");
+}
+
+// The first byte and what follows, of a frame and of none; the sub-function with and without its bit 7.
+fn first_bytes() {
+    text(b"service:");
+    hex(frame::sid(b"\x22\xF1\x90"));
+    hex(frame::sid(b""));
+    number(frame::payload(b"\x22\xF1\x90").len() as u64);
+    number(frame::payload(b"").len() as u64);
+    text(b"\nsub-function:");
+    hex(frame::sub_function(b"\x83"));
+    hex(frame::sub_function(b"\x7F"));
+    hex(frame::sub_function(b""));
+    flag(frame::suppressed(b"\x80"));
+    flag(frame::suppressed(b"\x7F"));
+    flag(frame::suppressed(b""));
+    text(b"\n");
+}
+
+// Nibbles, the periodic page, bit 6, and numbers of two bytes.
+fn bits() {
+    text(b"bits:");
+    number(frame::high_nibble(0xA5) as u64);
+    number(frame::low_nibble(0xA5) as u64);
+    number(frame::periodic_did(0xFF) as u64);
+    hex(frame::response(0x22));
+    hex(frame::response(0x62));
+    text(b"\ntwo bytes:");
+    number(frame::identifier(0xF1, 0x90) as u64);
+    number(frame::word(b"\x00\xF1\x90", 1) as u64);
+    number(frame::word(b"\x00\xF1\x90", 2) as u64);
+    let both = frame::two_bytes(0x1_2345);
+    hex(both.0);
+    hex(both.1);
+    hex(frame::byte(b"\x07", 0));
+    hex(frame::byte(b"\x07", 1));
+    text(b"\n");
+}
+
+// Eight rows over four bytes, and three words that make no row: in the pool, its first row again, with an error byte, exactly to the end, a byte past it,
+// empty at the end, empty past it, and an error outside the pool.
+fn table() {
+    let words = [
+        0xF190u32,
+        0,
+        0,
+        2,
+        0xF190,
+        0,
+        2,
+        2,
+        0xF201,
+        0x110,
+        0,
+        4,
+        0xF202,
+        0,
+        2,
+        2,
+        0xF203,
+        0,
+        3,
+        2,
+        0xF204,
+        0,
+        4,
+        0,
+        0xF205,
+        0,
+        5,
+        0,
+        0xF206,
+        0x10,
+        0,
+        5,
+        0xF207,
+        0,
+        0,
+    ];
+    let pool = b"\x01\x02\x03\x04";
+    outcome(
+        b"in the pool, first row:",
+        values::value(&words, pool, 0xF190, 256),
+    );
+    outcome(b"error byte:", values::value(&words, pool, 0xF201, 256));
+    outcome(b"to the end:", values::value(&words, pool, 0xF202, 256));
+    outcome(b"a byte past:", values::value(&words, pool, 0xF203, 256));
+    outcome(
+        b"empty at the end:",
+        values::value(&words, pool, 0xF204, 256),
+    );
+    outcome(b"empty past it:", values::value(&words, pool, 0xF205, 256));
+    outcome(
+        b"an error outside:",
+        values::value(&words, pool, 0xF206, 256),
+    );
+    outcome(b"cut row:", values::value(&words, pool, 0xF207, 256));
+    outcome(b"missing:", values::value(&words, pool, 0xF208, 256));
+}
+
+// A value of 256 bytes and one of 257.
+fn long() {
+    let words = [0xF190u32, 0, 0, 256, 0xF201, 0, 0, 257];
+    let pool = [0u8; 300];
+    outcome(b"256 bytes:", values::value(&words, &pool, 0xF190, 256));
+    outcome(b"257 bytes:", values::value(&words, &pool, 0xF201, 256));
+}
+
+fn main() {
+    clock();
+    codes();
+    first_bytes();
+    bits();
+    table();
+    long();
+}
