@@ -1,9 +1,10 @@
--- Nothing else meets the promises: two answers that meet one are equal in all that it speaks of.
+-- Nothing else meets the promises: two answers that meet one are equal in all that it speaks of. due and subscriptions_valid are settled by `said` of
+-- `uds`, find by its `found`.
 use Prim.Native.Nat.{ℕ, _<_}
 use mathlib.Core.Path.{_≡_, refl, ap, ap₂, sym, _∙_}
 use mathlib.Core.Bool.{Bool, true, false}
 use mathlib.Core.List.{List, []}
-use mathlib.Core.Option.{Option, Option·none-ne-some, Option·some-ne-none}
+use mathlib.Core.Option.{Option·none-ne-some, Option·some-ne-none}
 use native.Mathlib.Decide.{decLe}
 use native.Mathlib.Omega.{arith}
 use lib.ListN.{length}
@@ -11,11 +12,8 @@ use lib.Dec.{eqb}
 use borrow.Author.Tests.{eqb-true, eqb-false}
 use Rattle.model.specs.Numbers.{Moment, Span, maxPeriodic}
 use Rattle.model.specs.State.{Subscription, freshPeriodic}
-use Rattle.uds.specs.declared.table.Found.{Found}
 use Rattle.uds.specs.declared.table.Found.the-variants.{Nothing}
-use Rattle.uds.specs.Table.{placeOf}
 use Rattle.uds.proofs.Tab.{tab-same, tab-length}
-use Rattle.uds.proofs.Settled as Settled
 use Rattle.periodic.specs.declared.PeriodicEntry.{PeriodicEntry}
 use Rattle.periodic.specs.declared.PeriodicState.{PeriodicState}
 use Rattle.periodic.specs.declared.Registered.{Registered}
@@ -25,14 +23,6 @@ use Rattle.periodic.specs.View.{entryAt, entryOf, tableOf, leftBy, Regis
 -- tables that are equal have as many entries
 as-many : (m n : ℕ) (w w' : List ℕ) → tableOf m w ≡ tableOf n w' → m ≡ n
 as-many m n w w' e = sym (tab-length (entryAt w) 0 m) ∙ ap length e ∙ tab-length (entryAt w') 0 n
-
--- due, subscriptions_valid: the promise is the answer
-pub said : {r r' x : Bool} → r ≡ x → r' ≡ x → r ≡ r'
-said e e' = e ∙ sym e'
-
--- find: the place
-pub found : (r r' : Found) (o : Option ℕ) → placeOf r ≡ o → placeOf r' ≡ o → r ≡ r'
-found r r' o e e' = Settled.found e e'
 
 -- entry_at: all four numbers
 pub entry : (r r' : PeriodicEntry) (e : Subscription) → entryOf r ≡ e → entryOf r' ≡ e → r ≡ r'

@@ -101,39 +101,20 @@ fn long() {
     drain(count, &heads, &room, &mut out);
 }
 
+// A reply after a functional request, told.
+fn after(count: u8, heads: &mut Heads, room: &mut Room, sid: u8, reply: Reply) -> u8 {
+    told(queue::reply::answer(count, heads, room, true, 16, sid, reply))
+}
+
 // What is withheld after a functional request and what is sent all the same; and a periodic frame, of 256 bytes and of 257.
 fn functional() {
     let mut room = [0u8; 4353];
     let mut heads = [0u32; 32];
-    let mut count = told(queue::reply::answer(
-        0,
-        &mut heads,
-        &mut room,
-        true,
-        16,
-        0x22,
-        Reply::Negative(0x31),
-    ));
-    count = told(queue::reply::answer(
-        count,
-        &mut heads,
-        &mut room,
-        true,
-        16,
-        0x22,
-        Reply::Negative(0x33),
-    ));
-    count = told(queue::reply::answer(
-        count,
-        &mut heads,
-        &mut room,
-        true,
-        16,
-        0x2A,
-        Reply::Always(0x31),
-    ));
-    count = told(queue::reply::answer(count, &mut heads, &mut room, true, 16, 0x31, Reply::Pends));
-    count = told(queue::reply::answer(count, &mut heads, &mut room, true, 16, 0x3E, Reply::Silent));
+    let mut count = after(0, &mut heads, &mut room, 0x22, Reply::Negative(0x31));
+    count = after(count, &mut heads, &mut room, 0x22, Reply::Negative(0x33));
+    count = after(count, &mut heads, &mut room, 0x2A, Reply::Always(0x31));
+    count = after(count, &mut heads, &mut room, 0x31, Reply::Pends);
+    count = after(count, &mut heads, &mut room, 0x3E, Reply::Silent);
     count = told(queue::reply::send(count, &mut heads, &mut room, 3712, 1, 256));
     queue::draft::extend(&mut room, count, 0, &[9, 8]);
     count = told(queue::reply::send(count, &mut heads, &mut room, 3712, 1, 2));

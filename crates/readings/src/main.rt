@@ -84,8 +84,13 @@ fn bits() {
     text(b"\n");
 }
 
-// Eight rows over four bytes, and three words that make no row: in the pool, its first row again, with an error byte, exactly to the end, a byte past it,
-// empty at the end, empty past it, and an error outside the pool.
+// What the table says of an identifier, at the limit of 256.
+fn read(what: &[u8], words: &[u32], pool: &[u8], identifier: u16) {
+    outcome(what, values::value(words, pool, identifier, 256));
+}
+
+// Eight rows over four bytes, and three words that make no row: in the pool, its identifier again, with an error byte, exactly to the end, a byte past
+// it, empty at the end, empty past it, and an error outside the pool.
 fn table() {
     let words = [
         0xF190u32,
@@ -125,32 +130,23 @@ fn table() {
         0,
     ];
     let pool = b"\x01\x02\x03\x04";
-    outcome(
-        b"in the pool, first row:",
-        values::value(&words, pool, 0xF190, 256),
-    );
-    outcome(b"error byte:", values::value(&words, pool, 0xF201, 256));
-    outcome(b"to the end:", values::value(&words, pool, 0xF202, 256));
-    outcome(b"a byte past:", values::value(&words, pool, 0xF203, 256));
-    outcome(
-        b"empty at the end:",
-        values::value(&words, pool, 0xF204, 256),
-    );
-    outcome(b"empty past it:", values::value(&words, pool, 0xF205, 256));
-    outcome(
-        b"an error outside:",
-        values::value(&words, pool, 0xF206, 256),
-    );
-    outcome(b"cut row:", values::value(&words, pool, 0xF207, 256));
-    outcome(b"missing:", values::value(&words, pool, 0xF208, 256));
+    read(b"in the pool, first row:", &words, pool, 0xF190);
+    read(b"error byte:", &words, pool, 0xF201);
+    read(b"to the end:", &words, pool, 0xF202);
+    read(b"a byte past:", &words, pool, 0xF203);
+    read(b"empty at the end:", &words, pool, 0xF204);
+    read(b"empty past it:", &words, pool, 0xF205);
+    read(b"an error outside:", &words, pool, 0xF206);
+    read(b"cut row:", &words, pool, 0xF207);
+    read(b"missing:", &words, pool, 0xF208);
 }
 
 // A value of 256 bytes and one of 257.
 fn long() {
     let words = [0xF190u32, 0, 0, 256, 0xF201, 0, 0, 257];
     let pool = [0u8; 300];
-    outcome(b"256 bytes:", values::value(&words, &pool, 0xF190, 256));
-    outcome(b"257 bytes:", values::value(&words, &pool, 0xF201, 256));
+    read(b"256 bytes:", &words, &pool, 0xF190);
+    read(b"257 bytes:", &words, &pool, 0xF201);
 }
 
 fn main() {

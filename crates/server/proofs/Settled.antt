@@ -53,6 +53,11 @@ security {r} {r'} e e' = record {
     z : securityOf r ≡ securityOf r'
     z = said e e'
 
+-- what an option holds, or another
+abbrev orElse : {A : Type 0} → A → Option A → A
+orElse d (some x) = x
+orElse d none = d
+
 -- increment_failed, set_lockout and their first entries: whether there was room, and the security state in either case
 pub record SameEntered (r r' : Entered) : Type 0 where
   pub room : r .room ≡ r' .room
@@ -61,12 +66,8 @@ pub record SameEntered (r r' : Entered) : Type 0 where
 pub entered : {k : SecurityState} {o : Option Security} {r r' : Entered} → Enters k o r → Enters k o r' → SameEntered r r'
 entered {k} {o} {r} {r'} p q = go (r .room) (r' .room) refl refl (p .answer ∙ sym (q .answer))
   where
-    of : Security → Option Security → Security
-    of d (some x) = x
-    of d none = d
-
     go : (b b' : Bool) → r .room ≡ b → r' .room ≡ b' → pick b (some (securityOf (r .security))) none ≡ pick b' (some (securityOf (r' .security))) none → SameEntered r r'
-    go true true e e' z = record { room = e ∙ sym e'; security = security (ap (of (securityOf (r .security))) z) refl }
+    go true true e e' z = record { room = e ∙ sym e'; security = security (ap (orElse (securityOf (r .security))) z) refl }
     go true false e e' z = absurd (Option·some-ne-none _ z)
     go false true e e' z = absurd (Option·none-ne-some _ z)
     go false false e e' z = record { room = e ∙ sym e'; security = security (ap securityOf (p .full e ∙ sym (q .full e'))) refl }
@@ -85,12 +86,8 @@ pending {r} {r'} p q = go (r .on) (r' .on) refl refl (said p q)
     made : Model.PendingRequest → Bool → PendingRequest
     made x b = record { deadline = record { 0 = x .deadline }; dst = x .dst; sid = x .sid; on = b }
 
-    of : Model.PendingRequest → Option Model.PendingRequest → Model.PendingRequest
-    of d (some x) = x
-    of d none = d
-
     go : (b b' : Bool) → r .on ≡ b → r' .on ≡ b' → pick b (some (asked r)) none ≡ pick b' (some (asked r')) none → SamePending r r'
-    go true true e e' z = record { on = e ∙ sym e'; request = λ w. ap₂ made (ap (of (asked r)) z) (e ∙ sym e') }
+    go true true e e' z = record { on = e ∙ sym e'; request = λ w. ap₂ made (ap (orElse (asked r)) z) (e ∙ sym e') }
     go true false e e' z = absurd (Option·some-ne-none _ z)
     go false true e e' z = absurd (Option·none-ne-some _ z)
     go false false e e' z = record { on = e ∙ sym e'; request = λ w. absurd (false≢true (sym e ∙ w)) }
