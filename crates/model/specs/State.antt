@@ -153,3 +153,10 @@ unlocked a l = record { sessionType = a .sessionType; level = l; lastRx = a .las
 -- the seed cleared: counts and locks stay
 abbrev pub cleared : Security → Security
 cleared k = record { seed = []; seedLevel = 0; failed = k .failed; locks = k .locks }
+
+-- other counts, and other locks
+abbrev pub withFailed : Security → List Failed → Security
+withFailed k f = record { seed = k .seed; seedLevel = k .seedLevel; failed = f; locks = k .locks }
+
+abbrev pub withLocks : Security → List Lock → Security
+withLocks k l = record { seed = k .seed; seedLevel = k .seedLevel; failed = k .failed; locks = l }

@@ -51,6 +51,10 @@ abbrev pub without : {A : Type 0} → (A → Bool) → List A → List A
 without p [] = []
 without p (a ∷ l) = pick (p a) (without p l) (a ∷ without p l)
 
--- the first that passes changed; where none does, a new one at the end; and nothing where `most` are held
+-- one more at the end, and nothing where `most` are held
+abbrev pub added : {A : Type 0} → ℕ → A → List A → Option (List A)
+added most new l = pick (ltb (length l) most) (some (l ++ (new ∷ []))) none
+
+-- the first that passes changed; where none does, a new one at the end
 unfoldable pub enter : {A : Type 0} → ℕ → (A → Bool) → (A → A) → A → List A → Option (List A)
-enter most p f new l = pick (any p l) (some (changeFirst p f l)) (pick (ltb (length l) most) (some (l ++ (new ∷ []))) none)
+enter most p f new l = pick (any p l) (some (changeFirst p f l)) (added most new l)

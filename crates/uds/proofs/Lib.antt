@@ -1,3 +1,4 @@
+pub mod Promise
 pub mod Bits
 pub mod Lists
 pub mod Tab

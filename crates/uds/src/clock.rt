@@ -3,12 +3,16 @@
 ghost use mathlib.Core.Path.{_≡_};
 ghost use Prim.Native.Nat.{_-_};
 ghost use lib.Dec.{leb, ltb};
+ghost use Rattle.model.specs.Numbers.{maxSpan};
+ghost use Rattle.model.specs.State.{momentValid};
 ghost use Rattle.uds.specs.Clock.{later, larger};
 
 // A moment: milliseconds since the clock's zero.
+#[repr(C)]
 pub struct Instant(pub u64);
 
 // A span: milliseconds between two moments.
+#[repr(C)]
 pub struct Duration(pub u64);
 
 impl Instant {
@@ -16,6 +20,12 @@ impl Instant {
 
     // The last moment that there is.
     pub const LAST: u64 = 0xFFFF_FFFF_FFFF_FFFF;
+
+    // The last moment that a call takes: 2^48 milliseconds.
+    pub const MAX_TIME: u64 = 0x1_0000_0000_0000;
+
+    // The last moment that a state may hold: a span after the last one that a call takes.
+    pub const MAX_MOMENT: u64 = 0x1_0001_0000_0000;
 
     // A span later. There is no moment past the last one: a sum that would pass it stays there.
     pub fn plus(self, span: Duration) -> Instant
@@ -43,10 +53,20 @@ impl Instant {
     {
         self.0 < other.0
     }
+
+    // A state may hold it.
+    pub fn is_valid(self) -> bool
+        ensures { λ r. ⌜ r ≡ momentValid (self .0) ⌝ }
+    {
+        self.0 <= Self::MAX_MOMENT
+    }
 }
 
 impl Duration {
     pub const ZERO: Duration = Duration(0);
+
+    // A configured span, and an interval that a state may hold, is below 2^32 milliseconds.
+    pub const MAX_SPAN: u64 = 0x1_0000_0000;
 
     pub fn exceeds(self, other: Duration) -> bool
         ensures { λ r. ⌜ r ≡ ltb (other .0) (self .0) ⌝ }
@@ -61,5 +81,11 @@ impl Duration {
             return other;
         }
         self
+    }
+
+    pub fn within(self) -> bool
+        ensures { λ r. ⌜ r ≡ ltb (self .0) maxSpan ⌝ }
+    {
+        self.0 < Self::MAX_SPAN
     }
 }

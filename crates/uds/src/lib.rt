@@ -3,6 +3,7 @@
 pub mod clock;
 pub mod frame;
 pub mod nrc;
+pub mod result;
 pub mod rows;
 pub mod table;
 pub mod values;
