@@ -59,7 +59,7 @@ answered limit mode q to sid (negative code) = refused mode q to sid code
 answered limit mode q to sid (always code) = pushed q to (negativeFrame sid code)
 answered limit mode q to sid pends = pended q to sid
 
--- a periodic frame: 4 where it exceeds the limit, and only then 3
+-- a periodic frame: 4 where it exceeds the limit, else queued
 unfoldable pub sent : ℕ → List Frame → ℕ → List ℕ → QueueStep
 sent limit q to bytes = pick (leb (length bytes) limit) (pushed q to bytes) (leaves 4 q)
 

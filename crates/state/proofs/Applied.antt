@@ -12,16 +12,15 @@ use Rattle.model.specs.Numbers.{maxFrame, maxTime}
 use Rattle.model.specs.Config.{findSession, p2ExtOf, within}
 use Rattle.model.specs.State as Model
 use Rattle.model.specs.State.{Session, Security, Subscription, cleared, received}
-use Rattle.model.specs.Reply.{replied}
+use Rattle.model.specs.Queue.{answered}
+use Rattle.model.specs.Reply.{taken, readied, replied}
 use Rattle.model.specs.Service as Rules
 use Rattle.model.proofs.Valid.Parts.{p2Ext-below}
 use Rattle.uds.specs.Clock.{later, starts}
 use Rattle.uds.proofs.Times.{in-time, on-the-clock}
 use Rattle.config.specs.View.{configOf}
-use Rattle.queue.specs.Model.{answered, readied}
 use Rattle.queue.specs.View.{queueOf, replyOf, modeOf}
 use Rattle.queue.specs.View as Queue
-use Rattle.queue.proofs.Replied.{taken, replied-answered}
 use Rattle.queue.specs.declared.reply.Pushed.{Pushed}
 use Rattle.queue.specs.declared.reply.Reply.{Reply}
 use Rattle.queue.specs.declared.reply.Reply.the-variants.{Silent, Positive, Negative, Always, Pends}
@@ -65,11 +64,8 @@ module _ (w : List ℕ) (session : ℕ) (pending : PendingRequest) (frames : ℕ
   reply-taken : (x : PendingRequest) → ((a : Session) (k : Security) (table : List Subscription) → a .sessionType ≡ session
       → beside w a k table x functional frames heads room ≡ readied (beside w a k table pending functional frames heads room) to sid (madeAt w session t) (replyOf reply frames room))
       → Replies w session pending frames functional heads room to sid t reply (with-pending x) heads' room'
-  reply-taken x h = record {
-    step = λ a k table e.
-        let m = beside w a k table pending functional frames heads room in
-        ap₂ taken (h a k table e) q ∙ sym (replied-answered maxFrame m to sid (madeAt w session t) (replyOf reply frames room));
-  }
+  unfolding replied
+  reply-taken x h = record { step = λ a k table e. ap₂ taken (h a k table e) q }
 
   pub reply-kept : pendsOf reply ≡ false → Replies w session pending frames functional heads room to sid t reply (with-pending pending) heads' room'
   reply-kept n = reply-taken pending (λ a k table e. not-pending (beside w a k table pending functional frames heads room) to sid (madeAt w session t) frames room reply n)
