@@ -54,6 +54,7 @@ pub record Puts (before : List ℕ) (counter from level number : ℕ) (r : Bool)
   pub first : placed before counter from level ≡ none → getD before counter 0 < maxLevels
       → (r ≡ true) × (after ≡ set (set (set before (from + 2 * getD before counter 0) level) (from + 2 * getD before counter 0 + 1) number) counter (getD before counter 0 + 1))
   pub full : placed before counter from level ≡ none → maxLevels ≤ getD before counter 0 → (r ≡ false) × (after ≡ before)
+  pub words : length before ≡ 68
 
 -- one thing of a list of at most eight, another where it is longer and so is no list of levels
 abbrev pub listed : {A B : Type 0} → List A → B → B → B

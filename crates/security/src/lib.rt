@@ -71,7 +71,7 @@ fn find_level(k: &Security, counter: usize, from: usize, level: u8) -> Found
     if MAX_LEVELS < rows {
         return Found::Nothing;
     }
-    let key = wide(level);
+    let key = level as u64;
     let n = rows as usize;
     let mut i: usize = 0;
     while i < n {
@@ -109,7 +109,7 @@ fn enter(k: &mut Security, counter: usize, from: usize, level: u8, number: u64) 
         return false;
     }
     let at = from + 2 * (rows as usize);
-    k[at] = wide(level);
+    k[at] = level as u64;
     k[at + 1] = number;
     k[counter] = rows + 1;
     true
@@ -143,7 +143,7 @@ fn raised(count: u64) -> u64
 pub fn increment(k: &mut Security, level: u8) -> bool
     ensures { λ r. ⌜ Enters (now (k .entry)) (counted (securityOf (now (k .entry))) level) r (now (k .exit)) ⌝ }
 {
-    let count = raised(failed_count(k, level));
+    let count = raised(number(k, COUNTS, FIRST_COUNT, level));
     enter(k, COUNTS, FIRST_COUNT, level, count)
 }
 
@@ -168,7 +168,7 @@ pub fn reset(k: &mut Security, level: u8)
 pub fn awaits(k: &Security, level: u8) -> bool
     ensures { λ r. ⌜ r ≡ Rules.awaits (securityOf (now (k .entry))) level ⌝ }
 {
-    k[SEED_LEVEL] == wide(level) && 1 <= k[SEED_LENGTH]
+    k[SEED_LEVEL] == level as u64 && 1 <= k[SEED_LENGTH]
 }
 
 // All bytes of a seed overwritten.
@@ -228,7 +228,7 @@ pub fn seed(k: &mut Security, level: u8, bytes: &[u8])
     fill(k, bytes);
     let words = size(k);
     k[SEED_LENGTH] = n as u64;
-    k[SEED_LEVEL] = wide(level);
+    k[SEED_LEVEL] = level as u64;
 }
 
 // No lock ends later than the last moment that a state may hold.

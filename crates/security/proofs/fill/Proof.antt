@@ -1,59 +1,52 @@
+use Prim.Native.Nat.{_+_, _-_, _≤_}
+use mathlib.Core.Path.{_≡_, _∙_}
+use native.Mathlib.Omega.{arith}
+use denote.Ref.{now}
+use lib.ListN.{length, length-set}
+use Rattle.security.specs.View.{Fills}
+use Rattle.security.proofs.Bytes.{filled-none, filled-more}
+use borrow.Author.Needs.{needs}
 use Rattle.security.proofs.fill.Statement.{statement}
 use Rattle.security.proofs.fill.Tie as tie
-use Rattle.security.proofs.fill.Reads as reads
-use Rattle.security.proofs.fill.Lts as lts
-use Rattle.security.proofs.size.Reads as size-reads
-use Rattle.security.proofs.wide.Reads as wide-reads
 
 abbrev Inv-loop : tie.InvT-loop
-Inv-loop k₀ bytes words n i₀ k i = ?
+Inv-loop k₀ bytes words n i₀ k i = (i ≤ length bytes) × (length k ≡ 68) × Fills k₀ bytes i k
 
 abbrev μ-loop : tie.MeasureT-loop
-μ-loop k₀ bytes words n i₀ k i = ?
+μ-loop k₀ bytes words n i₀ k i = length bytes - i
 
--- src/lib.rt:191:9
 size-requires : tie.Need-size-requires Inv-loop μ-loop
-size-requires c κs = ?
+size-requires c κs = search needs
 
--- src/lib.rt:194:5
 loop-holds : tie.Need-loop-holds Inv-loop μ-loop
-loop-holds c = ?
+loop-holds c = (omega arith, search needs, filled-none _ _)
 
--- src/lib.rt:195:34
 shared-slice-read-wide : tie.Need-shared-slice-read-wide Inv-loop μ-loop
-shared-slice-read-wide c = ?
+shared-slice-read-wide c = search needs
 
--- src/lib.rt:195:29
 wide-requires : tie.Need-wide-requires Inv-loop μ-loop
-wide-requires c κs = ?
+wide-requires c κs = search needs
 
--- src/lib.rt:195:11
 add-k : tie.Need-add-k Inv-loop μ-loop
-add-k c = ?
+add-k c = search needs
 
--- src/lib.rt:195:9
 mul-k : tie.Need-mul-k Inv-loop μ-loop
-mul-k c = ?
+mul-k c = search needs
 
--- src/lib.rt:195:9
 element-write-k : tie.Need-element-write-k Inv-loop μ-loop
-element-write-k c = ?
+element-write-k c = search needs
 
--- src/lib.rt:196:9
 add-i : tie.Need-add-i Inv-loop μ-loop
-add-i c = ?
+add-i c = search needs
 
--- src/lib.rt:194:5
 loop-less : tie.Need-loop-less Inv-loop μ-loop
-loop-less c = ?
+loop-less c = search needs
 
--- src/lib.rt:194:5
 loop-again : tie.Need-loop-again Inv-loop μ-loop
-loop-again c = ?
+loop-again c = let l = c .before .before .before .loop in (omega arith, length-set (l .k) (4 + l .i) (c .wide .result) ∙ l .inv .1, filled-more _ (l .k) (now (c .before .before .before .before .before .before .before .before .args .bytes)) (l .i) (c .wide .result) (l .inv .2) (omega arith) (l .inv .1) (c .wide .ensures))
 
--- src/lib.rt:187:1
 returns : tie.Need-returns Inv-loop μ-loop
-returns c = ?
+returns c = let l = c .before .loop in let e : l .i ≡ length (now (c .before .before .before .before .before .before .args .bytes)) = omega arith in rw e at (l .inv .2)
 
 pub fill-spec : {M : Type 1} → statement M
 fill-spec =

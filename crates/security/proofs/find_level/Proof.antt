@@ -1,70 +1,66 @@
+use Prim.Native.Nat.{_+_, _-_, _*_, _≤_}
+use mathlib.Core.Path.{_≡_, refl, ap, _∙_}
+use native.Mathlib.Omega.{arith}
+use denote.Ref.{now}
+use lib.ListN.{getD}
+use borrow.Author.Tests.{eq-eqb, ne-eqb, le-leb, lt-leb}
+use Rattle.model.specs.Tests.{place}
+use Rattle.uds.specs.Table.{tab, isKey}
+use Rattle.uds.proofs.Tab.{placeFrom, counted, tab-all, over, hit, miss}
+use Rattle.security.specs.View.{rowAt, placed}
+use Rattle.security.proofs.Words.{row-here}
+use borrow.Author.Needs.{needs}
 use Rattle.security.proofs.find_level.Statement.{statement}
 use Rattle.security.proofs.find_level.Tie as tie
-use Rattle.security.proofs.find_level.Reads as reads
-use Rattle.security.proofs.find_level.Lts as lts
-use Rattle.security.proofs.wide.Reads as wide-reads
 
 abbrev Inv-loop : tie.InvT-loop
-Inv-loop k counter from level rows key n i₀ i = ?
+Inv-loop k counter from level rows key n i₀ i = (i ≤ getD k counter 0) × (getD k counter 0 ≤ 8) × (placed k counter from level ≡ placeFrom (isKey level) (tab (rowAt k from) i (getD k counter 0 - i)) i)
 
 abbrev μ-loop : tie.MeasureT-loop
-μ-loop k counter from level rows key n i₀ i = ?
+μ-loop k counter from level rows key n i₀ i = getD k counter 0 - i
 
--- src/lib.rt:70:16
 mul-rows : tie.Need-mul-rows Inv-loop μ-loop
-mul-rows c = ?
+mul-rows c = search needs
 
--- src/lib.rt:70:16
 element-copy-out-rows : tie.Need-element-copy-out-rows Inv-loop μ-loop
-element-copy-out-rows c = ?
+element-copy-out-rows c = search needs
 
--- src/lib.rt:72:9
 returns : tie.Need-returns Inv-loop μ-loop
-returns c = ?
+returns c = let a = c .before .before .args in rw (lt-leb (getD (now (a .k)) (a .counter) 0) 8 (c .if1 .taken))
 
--- src/lib.rt:74:9
-wide-requires : tie.Need-wide-requires Inv-loop μ-loop
-wide-requires c κs = ?
-
--- src/lib.rt:77:5
 loop-holds : tie.Need-loop-holds Inv-loop μ-loop
-loop-holds c = ?
+loop-holds c = let a = c .before .before .args in let w = now (a .k) in let n = getD w (a .counter) 0 in
+    (omega arith, omega arith, rw (le-leb n 8 (omega arith)) (ap (place (isKey (a .level))) (tab-all (rowAt w (a .from)) n) ∙ counted (isKey (a .level)) (tab (rowAt w (a .from)) 0 (n - 0))))
 
--- src/lib.rt:78:21
 mul-if2 : tie.Need-mul-if2 Inv-loop μ-loop
-mul-if2 c = ?
+mul-if2 c = search needs
 
--- src/lib.rt:78:14
 add-if2 : tie.Need-add-if2 Inv-loop μ-loop
-add-if2 c = ?
+add-if2 c = search needs
 
--- src/lib.rt:78:12
 mul-if2-2 : tie.Need-mul-if2-2 Inv-loop μ-loop
-mul-if2-2 c = ?
+mul-if2-2 c = search needs
 
--- src/lib.rt:78:12
 element-copy-out-if2 : tie.Need-element-copy-out-if2 Inv-loop μ-loop
-element-copy-out-if2 c = ?
+element-copy-out-if2 c = search needs
 
--- src/lib.rt:79:13
 returns-2 : tie.Need-returns-2 Inv-loop μ-loop
-returns-2 c = ?
+returns-2 c = let a = c .before .before .before .before .before .before .args in let l = c .before .before .before .loop in let w = now (a .k) in
+    hit (rowAt w (a .from)) (isKey (a .level)) (getD w (a .counter) 0) (l .i) _ (l .inv .2) (omega arith) (ap (isKey (a .level)) (row-here w (a .from) (l .i) (a .from + 2 * l .i) (omega arith) refl) ∙ eq-eqb _ _ (c .if2 .taken))
 
--- src/lib.rt:81:9
 add-i : tie.Need-add-i Inv-loop μ-loop
-add-i c = ?
+add-i c = search needs
 
--- src/lib.rt:77:5
 loop-less : tie.Need-loop-less Inv-loop μ-loop
-loop-less c = ?
+loop-less c = search needs
 
--- src/lib.rt:77:5
 loop-again : tie.Need-loop-again Inv-loop μ-loop
-loop-again c = ?
+loop-again c = let a = c .before .before .before .before .before .before .args in let l = c .before .before .before .loop in let w = now (a .k) in
+    (omega arith, omega arith, miss (rowAt w (a .from)) (isKey (a .level)) (getD w (a .counter) 0) (l .i) _ (l .inv .2) (omega arith) (ap (isKey (a .level)) (row-here w (a .from) (l .i) (a .from + 2 * l .i) (omega arith) refl) ∙ ne-eqb _ _ (c .if2 .left)))
 
--- src/lib.rt:66:1
 returns-3 : tie.Need-returns-3 Inv-loop μ-loop
-returns-3 c = ?
+returns-3 c = let a = c .before .before .before .before .args in let l = c .before .loop in let w = now (a .k) in
+    over (rowAt w (a .from)) (isKey (a .level)) (getD w (a .counter) 0) (l .i) _ (l .inv .2) (omega arith)
 
 pub find-level-spec : {M : Type 1} → statement M
 find-level-spec =
@@ -75,7 +71,6 @@ find-level-spec =
     mul-rows
     element-copy-out-rows
     returns
-    wide-requires
     loop-holds
     mul-if2
     add-if2

@@ -1,50 +1,46 @@
+use Prim.Native.Nat.{_+_, _-_, _≤_}
+use mathlib.Core.Path.{_≡_, refl, _∙_}
+use mathlib.Core.List.{[]}
+use native.Mathlib.Omega.{arith}
+use lib.ListN.{length, length-set}
+use Rattle.security.specs.View.{Fills}
+use Rattle.security.proofs.Bytes.{filled-none, filled-more}
+use borrow.Author.Needs.{needs}
 use Rattle.security.proofs.wipe.Statement.{statement}
 use Rattle.security.proofs.wipe.Tie as tie
-use Rattle.security.proofs.wipe.Reads as reads
-use Rattle.security.proofs.wipe.Lts as lts
-use Rattle.security.proofs.size.Reads as size-reads
 
 abbrev Inv-loop : tie.InvT-loop
-Inv-loop k₀ words i₀ k i = ?
+Inv-loop k₀ words i₀ k i = (i ≤ 32) × (length k ≡ 68) × Fills k₀ [] i k
 
 abbrev μ-loop : tie.MeasureT-loop
-μ-loop k₀ words i₀ k i = ?
+μ-loop k₀ words i₀ k i = 32 - i
 
--- src/lib.rt:178:9
 size-requires : tie.Need-size-requires Inv-loop μ-loop
-size-requires c κs = ?
+size-requires c κs = search needs
 
--- src/lib.rt:180:5
 loop-holds : tie.Need-loop-holds Inv-loop μ-loop
-loop-holds c = ?
+loop-holds c = (omega arith, search needs, filled-none _ _)
 
--- src/lib.rt:181:11
 add-k : tie.Need-add-k Inv-loop μ-loop
-add-k c = ?
+add-k c = search needs
 
--- src/lib.rt:181:9
 mul-k : tie.Need-mul-k Inv-loop μ-loop
-mul-k c = ?
+mul-k c = search needs
 
--- src/lib.rt:181:9
 element-write-k : tie.Need-element-write-k Inv-loop μ-loop
-element-write-k c = ?
+element-write-k c = search needs
 
--- src/lib.rt:182:9
 add-i : tie.Need-add-i Inv-loop μ-loop
-add-i c = ?
+add-i c = search needs
 
--- src/lib.rt:180:5
 loop-less : tie.Need-loop-less Inv-loop μ-loop
-loop-less c = ?
+loop-less c = search needs
 
--- src/lib.rt:180:5
 loop-again : tie.Need-loop-again Inv-loop μ-loop
-loop-again c = ?
+loop-again c = let l = c .before .loop in (omega arith, length-set (l .k) (4 + l .i) 0 ∙ l .inv .1, filled-more _ (l .k) [] (l .i) 0 (l .inv .2) (omega arith) (l .inv .1) refl)
 
--- src/lib.rt:175:1
 returns : tie.Need-returns Inv-loop μ-loop
-returns c = ?
+returns c = let l = c .before .loop in let e : l .i ≡ 32 = omega arith in rw e at (l .inv .2)
 
 pub wipe-spec : {M : Type 1} → statement M
 wipe-spec =
