@@ -25,14 +25,14 @@ use Rattle.queue.specs.declared.reply.Pushed.{Pushed}
 use Rattle.queue.specs.declared.reply.Reply.{Reply}
 use Rattle.queue.specs.declared.reply.Reply.the-variants.{Silent, Positive, Negative, Always, Pends}
 use Rattle.periodic.specs.View.{tableOf}
-use Rattle.security.specs.View.{securityOf}
+use Rattle.security.specs.View.{securityOf, ClearsIf}
 use Rattle.state.specs.declared.SessionState.{SessionState}
 use Rattle.state.specs.declared.PendingRequest.{PendingRequest}
 use Rattle.state.specs.declared.State.{State}
 use Rattle.state.specs.declared.apply.Effect.{Effect}
 use Rattle.state.specs.declared.apply.Answer.{Answer}
 use Rattle.state.specs.declared.apply.Said.{Said}
-use Rattle.state.specs.View.{sessionOf, pendingOf, beside, stateOf, pendsOf, madeAt, Replies, effectOf, Applies}
+use Rattle.state.specs.View.{sessionOf, pendingOf, beside, stateOf, stepOf, pendsOf, madeAt, Replies, effectOf, Applies}
 
 -- a fresh state is fresh in all that it holds
 pub fresh-state : (a : SessionState) (p : PendingRequest) (n : ℕ) → sessionOf a ≡ Model.freshSession → pendingOf p ≡ none → ((w : List ℕ) → tableOf n w ≡ Model.freshPeriodic) → (config k subs heads room : List ℕ) → securityOf k ≡ Model.freshSecurity
@@ -93,8 +93,10 @@ module _ (w : List ℕ) (s : State) (k heads room : List ℕ) (to sid t : ℕ) (
   abbrev Reply-in : ℕ → Type 0
   Reply-in session = Replies w session (s .pending) (s .frames) functional heads room to sid t (e .reply) p heads' room'
 
+  -- the step that the definition takes
   abbrev Leaves : ℕ → ℕ → ℕ → Type 0
-  Leaves x level n = Applies w s k heads room to sid t functional e (leaving x level n) k' heads' room'
+  Leaves x level n = (subs : List ℕ) → stepOf w (leaving x level n) k' subs heads' room'
+      ≡ Rules.apply maxFrame (received (stateOf w s k subs heads room) (modeOf functional) t) to sid (madeAt w (pick (e .waits) (s .session .«session_type») (e .session)) t) (effectOf e t k subs (s .frames) room)
 
   abbrev changed : Security
   changed = pick (e .«clears_seed») (cleared (securityOf k)) (securityOf k)
@@ -105,42 +107,38 @@ module _ (w : List ℕ) (s : State) (k heads room : List ℕ) (to sid t : ℕ) (
   -- a change that does not wait is made before the reply
   made-first : e .waits ≡ false → Reply-in (e .session) → securityOf k' ≡ changed → Leaves (e .session) (e .level) (e .subscriptions)
   unfolding Rules.apply
-  made-first h r c = record { step = λ subs. r .step (at (e .session) (e .level)) (securityOf k') (tableOf (e .subscriptions) subs) refl ∙ rw (h, c) }
+  made-first h r c subs = r .step (at (e .session) (e .level)) (securityOf k') (tableOf (e .subscriptions) subs) refl ∙ rw (h, c)
 
   -- one that waits is not made where the reply met a result
   unmade : e .waits ≡ true → (p .result ≡ 0 → ⊥) → Reply-in (s .session .«session_type») → securityOf k' ≡ securityOf k → Leaves (s .session .«session_type») (s .session .level) (s .subscriptions)
   unfolding Rules.apply Rules.changedAfter
-  unmade h n r c = record {
-    step = λ subs.
-        let q = r .step (at (s .session .«session_type») (s .session .level)) (securityOf k') (tableOf (s .subscriptions) subs) refl in
-        let z = rw c at q in
-        let m : replied maxFrame (received (stateOf w s k subs heads room) (modeOf functional) t) to sid (madeAt w (s .session .«session_type») t) (replyOf (e .reply) (s .frames) room) .result ≡ p .result = ap (λ (x : Model.Step). x .result) (sym z) in
-        rw c (z ∙ rw (h, m, ne-eqb (p .result) 0 n));
-  }
+  unmade h n r c subs =
+      let z = r .step (at (s .session .«session_type») (s .session .level)) (securityOf k) (tableOf (s .subscriptions) subs) refl in
+      let m : replied maxFrame (received (stateOf w s k subs heads room) (modeOf functional) t) to sid (madeAt w (s .session .«session_type») t) (replyOf (e .reply) (s .frames) room) .result ≡ p .result = ap (λ (x : Model.Step). x .result) (sym z) in
+      rw c (z ∙ rw (h, m, ne-eqb (p .result) 0 n))
 
   -- and is made where it met none
   made-then : e .waits ≡ true → p .result ≡ 0 → Reply-in (s .session .«session_type») → securityOf k' ≡ changed → Leaves (e .session) (e .level) (e .subscriptions)
   unfolding Rules.apply Rules.changedAfter
-  made-then h n r c = record {
-    step = λ subs.
-        let q = r .step (at (s .session .«session_type») (s .session .level)) (securityOf k) (tableOf (s .subscriptions) subs) refl in
-        let v = replied maxFrame (received (stateOf w s k subs heads room) (modeOf functional) t) to sid (madeAt w (s .session .«session_type») t) (replyOf (e .reply) (s .frames) room) in
-        let m : v .result ≡ 0 = ap (λ (x : Model.Step). x .result) (sym q) ∙ n in
-        let f : stateOf w (leaving (e .session) (e .level) (e .subscriptions) .state) k' subs heads' room' ≡ Rules.changed (v .state) (effectOf e t k subs (s .frames) room) =
-        rw c (ap (λ (x : Model.Step). Rules.changed (x .state) (effectOf e t k subs (s .frames) room)) q) in
-        ap₂ Model.step n f ∙ rw (h, m);
-  }
+  made-then h n r c subs =
+      let q = r .step (at (s .session .«session_type») (s .session .level)) (securityOf k) (tableOf (s .subscriptions) subs) refl in
+      let v = replied maxFrame (received (stateOf w s k subs heads room) (modeOf functional) t) to sid (madeAt w (s .session .«session_type») t) (replyOf (e .reply) (s .frames) room) in
+      let m : v .result ≡ 0 = ap (λ (x : Model.Step). x .result) (sym q) ∙ n in
+      let f : stateOf w (leaving (e .session) (e .level) (e .subscriptions) .state) k' subs heads' room' ≡ Rules.changed (v .state) (effectOf e t k subs (s .frames) room) =
+      rw c (ap (λ (x : Model.Step). Rules.changed (x .state) (effectOf e t k subs (s .frames) room)) q) in
+      ap₂ Model.step n f ∙ rw (h, m)
 
   -- what was asked of the callees, and the answer built from it
-  pub applied : (at made clears : _) (x level n : ℕ) → at ≡ pick (e .waits) (s .session .«session_type») (e .session) → Reply-in at → made ≡ pick (e .waits) (eqb (p .result) 0) true
-      → clears ≡ (made && e .«clears_seed») → securityOf k' ≡ pick clears (cleared (securityOf k)) (securityOf k)
-      → x ≡ pick made (e .session) (s .session .«session_type») → level ≡ pick made (e .level) (s .session .level) → n ≡ pick made (e .subscriptions) (s .subscriptions) → Leaves x level n
-  applied at made clears x level n a r b c d ex el en = rw (ex, el, en) (go (e .waits) (eqb (p .result) 0) refl refl)
+  pub applied : (at : ℕ) (made clears : Bool) (x level n : ℕ) → at ≡ pick (e .waits) (s .session .«session_type») (e .session) → Reply-in at → made ≡ pick (e .waits) (eqb (p .result) 0) true
+      → clears ≡ (made && e .«clears_seed») → ClearsIf k clears k'
+      → x ≡ pick made (e .session) (s .session .«session_type») → level ≡ pick made (e .level) (s .session .level) → n ≡ pick made (e .subscriptions) (s .subscriptions)
+      → Applies w s k heads room to sid t functional e (leaving x level n) k' heads' room'
+  applied at made clears x level n a r b c d ex el en = record { step = rw (ex, el, en) (go (e .waits) (eqb (p .result) 0) refl refl); words = rw (← b, ← c) d }
     where
       go : (v z : Bool) → e .waits ≡ v → eqb (p .result) 0 ≡ z → Leaves (pick made (e .session) (s .session .«session_type»)) (pick made (e .level) (s .session .level)) (pick made (e .subscriptions) (s .subscriptions))
-      go false z h y = let m : made ≡ true = rw h at b in rw m (made-first h (rw (a, h) at r) (d ∙ rw (c, m)))
-      go true true h y = let m : made ≡ true = rw (h, y) at b in rw m (made-then h (eqb-true (p .result) 0 y) (rw (a, h) at r) (d ∙ rw (c, m)))
-      go true false h y = let m : made ≡ false = rw (h, y) at b in rw m (unmade h (eqb-false (p .result) 0 y) (rw (a, h) at r) (d ∙ rw (c, m)))
+      go false z h y = let m : made ≡ true = rw h at b in rw m (made-first h (rw (a, h) at r) (d .state ∙ rw (c, m)))
+      go true true h y = let m : made ≡ true = rw (h, y) at b in rw m (made-then h (eqb-true (p .result) 0 y) (rw (a, h) at r) (d .state ∙ rw (c, m)))
+      go true false h y = let m : made ≡ false = rw (h, y) at b in rw m (unmade h (eqb-false (p .result) 0 y) (rw (a, h) at r) (d .state ∙ rw (c, m)))
 
 -- at the times that are taken, under a configuration that keeps the numbers, a reply is made now
 pub made-now : (w : List ℕ) (session t : ℕ) → within (configOf w) ≡ true → t ≤ maxTime → madeAt w session t ≡ t

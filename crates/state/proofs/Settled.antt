@@ -2,11 +2,12 @@
 -- has it; `e` and `f` are what the one and the other leave of what was lent.
 use Prim.Native.Nat.{ℕ}
 use mathlib.Core.Path.{_≡_, refl, ap, ap₂, sym, _∙_}
-use mathlib.Core.Bool.{Bool, true, false, false≢true}
+use mathlib.Core.Bool.{Bool, true, false, false≢true, _&&_}
 use mathlib.Core.List.{List, []}
 use mathlib.Core.Option.{Option, some, none, Option·none-ne-some, Option·some-ne-none}
 use denote.Ref.{now}
 use lib.ListN.{length}
+use lib.Dec.{eqb}
 use Rattle.model.specs.Tests.{pick}
 use Rattle.model.specs.State as Model
 use Rattle.model.specs.State.{AddressMode, physical, functional, Session, Security, Subscription, Step}
@@ -15,6 +16,7 @@ use Rattle.uds.proofs.Settled.{said}
 use Rattle.uds.proofs.Tab.{tab-length}
 use Rattle.queue.specs.View.{frameAt, queueOf, modeOf}
 use Rattle.periodic.specs.View.{entryAt}
+use Rattle.security.specs.View.{seedAt, ClearsIf}
 use Rattle.state.specs.View.{sessionOf, pendingOf, beside, stateOf, stepOf}
 use Rattle.state.specs.declared.apply.Answer as Applied
 use Rattle.state.specs.declared.apply.Said.{Said}
@@ -128,21 +130,34 @@ replied-settled κs a x e y f p q =
       queue = ap (λ (m : Step). m .state .queue) z;
     }
 
--- of an effect the result, the state, and what is seen of all that is lent
+-- of an effect the result, the state, what is seen of all that is lent, and every byte of the seed
 pub record SameAnswer (config : List ℕ) (r r' : Applied.Answer) (k k' heads heads' room room' : List ℕ) : Type 0 where
   pub result : r .result ≡ r' .result
   pub state : SameState (r .state) (r' .state)
   pub seen : (subs : List ℕ) → stepOf config r k subs heads room ≡ stepOf config r' k' subs heads' room'
+  pub seed : (i : ℕ) → seedAt k i ≡ seedAt k' i
+
+-- a seed that is cleared has no byte left, and else every word is as it was
+cleared-alike : (clears : Bool) (k k' k'' : List ℕ) → ClearsIf k clears k' → ClearsIf k clears k'' → (i : ℕ) → seedAt k' i ≡ seedAt k'' i
+cleared-alike true k k' k'' a b i = a .overwritten refl i ∙ sym (b .overwritten refl i)
+cleared-alike false k k' k'' a b i = ap (λ (w : List ℕ). seedAt w i) (a .kept refl ∙ sym (b .kept refl))
 
 pub apply-settled : (κs : _) (a : _) → Settles (apply.Post κs a) (λ x e y f. SameAnswer (now (a .0)) x y (now (e .1 .1 .0)) (now (f .1 .1 .0)) (now (e .1 .1 .1 .0)) (now (f .1 .1 .1 .0)) (now (e .1 .1 .1 .1 .0)) (now (f .1 .1 .1 .1 .0)))
 apply-settled κs a x e y f p q = record {
-  result = ap (λ (m : Step). m .result) (z []);
+  result = same-result;
   state = state (x .state) (y .state) (now (a .0)) (now (a .0)) (now (e .1 .1 .0)) (now (f .1 .1 .0)) [] [] (now (e .1 .1 .1 .0)) (now (f .1 .1 .1 .0)) (now (e .1 .1 .1 .1 .0)) (now (f .1 .1 .1 .1 .0)) (ap (λ (m : Step). m .state) (z []));
   seen = z;
+  seed = cleared-alike (clears (x .result)) (now (a .1 .1 .0)) (now (e .1 .1 .0)) (now (f .1 .1 .0)) (p .words) (rw (ap clears (sym same-result)) at (q .words));
 }
   where
     z : (subs : List ℕ) → stepOf (now (a .0)) x (now (e .1 .1 .0)) subs (now (e .1 .1 .1 .0)) (now (e .1 .1 .1 .1 .0)) ≡ stepOf (now (a .0)) y (now (f .1 .1 .0)) subs (now (f .1 .1 .1 .0)) (now (f .1 .1 .1 .1 .0))
     z subs = said (p .step subs) (q .step subs)
+
+    same-result : x .result ≡ y .result
+    same-result = ap (λ (m : Step). m .result) (z [])
+
+    clears : ℕ → Bool
+    clears n = pick (a .1 .1 .1 .1 .1 .1 .1 .1 .1 .0 .waits) (eqb n 0) true && a .1 .1 .1 .1 .1 .1 .1 .1 .1 .0 .«clears_seed»
 
 pub is-valid-settled : (κs : _) (a : _) → Settles (is-valid.Post κs a) Answer
 is-valid-settled κs a x e y f p q = said p q

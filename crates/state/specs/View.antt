@@ -1,7 +1,8 @@
 -- From the program's records, and from what is lent beside them, to the definition's state.
 use Prim.Native.Nat.{ℕ}
 use mathlib.Core.Path.{_≡_}
-use mathlib.Core.Bool.{Bool, true, false}
+use mathlib.Core.Bool.{Bool, true, false, _&&_}
+use lib.Dec.{eqb}
 use mathlib.Core.List.{List}
 use mathlib.Core.Option.{Option, some, none}
 use Rattle.model.specs.Tests.{pick}
@@ -18,7 +19,7 @@ use Rattle.queue.specs.View.{queueOf, replyOf, modeOf}
 use Rattle.queue.specs.declared.reply.Reply.{Reply}
 use Rattle.queue.specs.declared.reply.Reply.the-variants.{Silent, Positive, Negative, Always, Pends}
 use Rattle.periodic.specs.View.{tableOf}
-use Rattle.security.specs.View.{securityOf}
+use Rattle.security.specs.View.{securityOf, ClearsIf}
 use Rattle.state.specs.declared.SessionState.{SessionState}
 use Rattle.state.specs.declared.PendingRequest.{PendingRequest}
 use Rattle.state.specs.declared.State.{State}
@@ -78,8 +79,13 @@ effectOf e t k subs frames room = record {
   waits = e .waits;
 }
 
+-- a change is made, unless it waits and the reply met a result
+abbrev pub isMade : Effect → Answer → Bool
+isMade e r = pick (e .waits) (eqb (r .result) 0) true
+
 -- a request received and an effect carried out, whatever the subscriptions; the reply is made in the session that the effect opens, unless the
--- change waits
+-- change waits; and of a seed that is cleared no byte is left
 pub record Applies (config : List ℕ) (s : State) (k heads room : List ℕ) (to sid t : ℕ) (functional : Bool) (e : Effect) (r : Answer) (k' heads' room' : List ℕ) : Type 0 where
   pub step : (subs : List ℕ) → stepOf config r k' subs heads' room'
       ≡ apply maxFrame (received (stateOf config s k subs heads room) (modeOf functional) t) to sid (madeAt config (pick (e .waits) (s .session .«session_type») (e .session)) t) (effectOf e t k subs (s .frames) room)
+  pub words : ClearsIf k (isMade e r && e .«clears_seed») k'

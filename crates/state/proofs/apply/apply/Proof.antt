@@ -31,7 +31,7 @@ chosen-requires-4 c κs = search needs
 returns : tie.Need-returns
 returns c = let a = c .before .before .before .before .before .before .before .before .before .before .before .before .before .before .args in
     applied (now (a .config)) (a .s) (now (a .k)) (now (a .heads)) (now (a .room)) (a .to) (a .sid) (a .t .0) (a .functional) (a .e) (c .before .before .before .before .before .before .before .before .replied .result) (c .before .before .before .before .settle .last .0) (c .before .before .before .before .before .before .before .before .replied .last .1 .1 .1 .1 .1 .0) (c .before .before .before .before .before .before .before .before .replied .last .1 .1 .1 .1 .1 .1 .0) (c .before .before .before .before .before .before .before .before .before .before .before .chosen .result) (c .before .before .before .before .before .before .before .is-made .result) (c .before .before .before .before .before .both .result) (c .before .before .chosen2 .result) (c .before .chosen3 .result) (c .chosen4 .result)
-    (c .before .before .before .before .before .before .before .before .before .before .before .chosen .ensures) (c .before .before .before .before .before .before .before .before .replied .ensures) (c .before .before .before .before .before .before .before .is-made .ensures) (c .before .before .before .before .before .both .ensures) (c .before .before .before .before .settle .ensures .state) (c .before .before .chosen2 .ensures) (c .before .chosen3 .ensures) (c .chosen4 .ensures)
+    (c .before .before .before .before .before .before .before .before .before .before .before .chosen .ensures) (c .before .before .before .before .before .before .before .before .replied .ensures) (c .before .before .before .before .before .before .before .is-made .ensures) (c .before .before .before .before .before .both .ensures) (c .before .before .before .before .settle .ensures) (c .before .before .chosen2 .ensures) (c .before .chosen3 .ensures) (c .chosen4 .ensures)
 
 pub apply-spec : {M : Type 1} → statement M
 apply-spec =
