@@ -1,4 +1,4 @@
 pub mod Words
 pub mod Levels
-pub mod Bytes
+pub mod Storing
 pub mod Settled

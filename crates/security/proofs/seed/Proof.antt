@@ -1,6 +1,6 @@
 use native.Mathlib.Omega.{arith}
 use denote.Ref.{now}
-use Rattle.security.proofs.Bytes.{seed-long, seed-held}
+use Rattle.security.proofs.Storing.{seed-long, seed-held}
 use borrow.Author.Needs.{needs}
 use Rattle.security.proofs.seed.Statement.{statement}
 use Rattle.security.proofs.seed.Tie as tie

@@ -4,7 +4,7 @@ use mathlib.Core.List.{[]}
 use native.Mathlib.Omega.{arith}
 use lib.ListN.{length, length-set}
 use Rattle.security.specs.View.{Fills}
-use Rattle.security.proofs.Bytes.{filled-none, filled-more}
+use Rattle.security.proofs.Storing.{filled-none, filled-more}
 use borrow.Author.Needs.{needs}
 use Rattle.security.proofs.wipe.Statement.{statement}
 use Rattle.security.proofs.wipe.Tie as tie
