@@ -1,11 +1,10 @@
 -- Nothing else meets the contracts: of two answers that meet one, each with what it leaves in the words, all that is seen of the words is the
 -- same, and every byte of the seed's place with it. Open are only the words of rows that no count reaches.
-use Prim.Native.Nat.{ℕ, _<_}
+use Prim.Native.Nat.{ℕ}
 use mathlib.Core.Path.{_≡_, refl, ap, sym, _∙_}
 use mathlib.Core.Bool.{Bool, true, false, false≢true}
 use mathlib.Core.List.{List}
 use mathlib.Core.Option.{Option, some, none, Option·none-ne-some, Option·some-ne-none}
-use native.Mathlib.Omega.{arith}
 use denote.Ref.{now}
 use lib.ListN.{length, getD}
 use Rattle.model.specs.Tests.{pick}
@@ -13,7 +12,7 @@ use Rattle.model.specs.State.{Security}
 use Rattle.uds.proofs.Promise.{Settles, Answer}
 use Rattle.uds.proofs.Settled.{said}
 use Rattle.uds.proofs.Tab.{tab-length}
-use Rattle.security.specs.View.{seedAt, failedAt, lockAt, securityOf, Enters, Resets, Clears, Seeds, ClearsIf}
+use Rattle.security.specs.View.{seedAt, failedAt, lockAt, securityOf, Enters, ClearsIf}
 use Rattle.security.proofs.SecurityState.new.Reads as new
 use Rattle.security.proofs.is_locked.Reads as is-locked
 use Rattle.security.proofs.failed_count.Reads as failed-count

@@ -56,6 +56,7 @@ fn size(words: &[u64]) -> usize
     words.len()
 }
 
+// A byte as a word.
 fn wide(b: u8) -> u64
     ensures { λ r. ⌜ r ≡ b ⌝ }
 {
