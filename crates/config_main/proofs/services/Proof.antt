@@ -1,8 +1,8 @@
 -- So many rows, one a turn.
 use Prim.Native.Nat.{_≤_, _-_}
 use borrow.Author.Needs.{needs}
-use Rattle.lookups.proofs.services.Statement.{statement}
-use Rattle.lookups.proofs.services.Tie as tie
+use Rattle.config_main.proofs.services.Statement.{statement}
+use Rattle.config_main.proofs.services.Tie as tie
 
 abbrev Inv-loop : tie.InvT-loop
 Inv-loop c₀ all i₀ t6 c i = i ≤ 14

@@ -1,8 +1,8 @@
 -- So many rows, one a turn.
 use Prim.Native.Nat.{_≤_, _-_}
 use borrow.Author.Needs.{needs}
-use Rattle.lookups.proofs.full.levels.Statement.{statement}
-use Rattle.lookups.proofs.full.levels.Tie as tie
+use Rattle.config_main.proofs.full.sessions.Statement.{statement}
+use Rattle.config_main.proofs.full.sessions.Tie as tie
 
 abbrev Inv-loop : tie.InvT-loop
 Inv-loop c₀ i₀ c i = i ≤ 8
@@ -19,11 +19,11 @@ key-requires c κs = search needs
 low-requires : tie.Need-low-requires Inv-loop μ-loop
 low-requires c κs = search needs
 
-low-requires-2 : tie.Need-low-requires-2 Inv-loop μ-loop
-low-requires-2 c κs = search needs
+cast-t7 : tie.Need-cast-t7 Inv-loop μ-loop
+cast-t7 c = search needs
 
-with-security-level-requires : tie.Need-with-security-level-requires Inv-loop μ-loop
-with-security-level-requires c κs = search needs
+with-session-requires : tie.Need-with-session-requires Inv-loop μ-loop
+with-session-requires c κs = search needs
 
 add-i : tie.Need-add-i Inv-loop μ-loop
 add-i c = search needs
@@ -37,8 +37,8 @@ loop-again c = search needs
 returns : tie.Need-returns Inv-loop μ-loop
 returns c = search needs
 
-pub levels-spec : {M : Type 1} → statement M
-levels-spec =
+pub sessions-spec : {M : Type 1} → statement M
+sessions-spec =
     tie.close
     (tie.spec
     Inv-loop
@@ -46,8 +46,8 @@ levels-spec =
     loop-holds
     key-requires
     low-requires
-    low-requires-2
-    with-security-level-requires
+    cast-t7
+    with-session-requires
     add-i
     loop-less
     loop-again

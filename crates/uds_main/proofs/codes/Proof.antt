@@ -1,7 +1,7 @@
 use Prim.Native.Nat.{_≤_, _-_}
 use borrow.Author.Needs.{needs}
-use Rattle.readings.proofs.codes.Statement.{statement}
-use Rattle.readings.proofs.codes.Tie as tie
+use Rattle.uds_main.proofs.codes.Statement.{statement}
+use Rattle.uds_main.proofs.codes.Tie as tie
 
 abbrev Inv-loop : tie.InvT-loop
 Inv-loop code₀ t3 t4 code = code ≤ 255

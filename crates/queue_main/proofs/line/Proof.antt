@@ -1,8 +1,8 @@
 use Prim.Native.Nat.{_≤_, _-_}
 use lib.ListN.{length}
 use borrow.Author.Needs.{needs}
-use Rattle.queue_frames.proofs.line.Statement.{statement}
-use Rattle.queue_frames.proofs.line.Tie as tie
+use Rattle.queue_main.proofs.line.Statement.{statement}
+use Rattle.queue_main.proofs.line.Tie as tie
 
 abbrev Inv-loop : tie.InvT-loop
 Inv-loop bytes i₀ t3 i = i ≤ length bytes

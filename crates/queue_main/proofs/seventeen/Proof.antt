@@ -1,7 +1,7 @@
 use Prim.Native.Nat.{_≤_, _-_}
 use borrow.Author.Needs.{needs}
-use Rattle.queue_frames.proofs.seventeen.Statement.{statement}
-use Rattle.queue_frames.proofs.seventeen.Tie as tie
+use Rattle.queue_main.proofs.seventeen.Statement.{statement}
+use Rattle.queue_main.proofs.seventeen.Tie as tie
 
 abbrev Inv-loop : tie.InvT-loop
 Inv-loop heads₀ room₀ count₀ i₀ heads room count i = i ≤ 17
