@@ -5,7 +5,7 @@ mod show;
 
 use config::Config;
 use config::build;
-use libc::STDOUT_FILENO;
+use lines::Line;
 use show::flag;
 use uds::clock::Duration;
 use uds::rows::DidConfig;
@@ -83,5 +83,5 @@ fn main() {
     more_rows(&c);
     sessions_listed(&c);
     full::run();
-    io::write_all(STDOUT_FILENO, b"done\n");
+    Line::new().text(b"done").print();
 }

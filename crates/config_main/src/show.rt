@@ -1,39 +1,27 @@
 // What the test writes.
 use config::Config;
-use libc::STDOUT_FILENO;
+use lines::Line;
 use uds::table::Found;
 use uds::table::examined;
 
-fn text(t: &[u8]) {
-    io::write_all(STDOUT_FILENO, t);
-}
-
-fn number(n: u64) {
-    io::print_decimal(STDOUT_FILENO, n);
-}
-
 // What was looked up, its key, the row, and the rows examined.
 fn line(what: &[u8], key: u64, found: Found, rows: usize) {
-    text(what);
-    number(key);
-    text(b": ");
-    row(found);
-    text(b", ");
-    number(examined(found, rows) as u64);
-    text(b" examined\n");
+    row(Line::new().text(what).number(key).text(b":"), found).text(b",")
+        .number(examined(found, rows) as u64)
+        .text(b" examined")
+        .print();
 }
 
-fn row(found: Found) {
+fn row(line: Line, found: Found) -> Line {
     let Found::At(i) = found else {
-        text(b"-");
-        return;
+        return line.text(b" -");
     };
-    number(i as u64);
+    line.number(i as u64)
 }
 
 pub(crate) fn session(c: &Config, key: u8) {
     line(
-        b"session ",
+        b"session",
         key as u64,
         config::find_session(c, key),
         config::session_count(c),
@@ -42,7 +30,7 @@ pub(crate) fn session(c: &Config, key: u8) {
 
 pub(crate) fn service(c: &Config, key: u8) {
     line(
-        b"service ",
+        b"service",
         key as u64,
         config::find_service(c, key),
         config::service_count(c),
@@ -51,7 +39,7 @@ pub(crate) fn service(c: &Config, key: u8) {
 
 pub(crate) fn did(c: &Config, key: u16) {
     line(
-        b"identifier ",
+        b"identifier",
         key as u64,
         config::find_did(c, key),
         config::did_count(c),
@@ -60,7 +48,7 @@ pub(crate) fn did(c: &Config, key: u16) {
 
 pub(crate) fn level(c: &Config, key: u8) {
     line(
-        b"level ",
+        b"level",
         key as u64,
         config::find_security_level(c, key),
         config::security_level_count(c),
@@ -68,17 +56,13 @@ pub(crate) fn level(c: &Config, key: u8) {
 }
 
 pub(crate) fn flag(what: &[u8], yes: bool) {
-    text(what);
     if yes {
-        text(b": yes\n");
+        Line::new().text(what).text(b": yes").print();
     } else {
-        text(b": no\n");
+        Line::new().text(what).text(b": no").print();
     }
 }
 
 pub(crate) fn value(what: &[u8], n: u64) {
-    text(what);
-    text(b": ");
-    number(n);
-    text(b"\n");
+    Line::new().text(what).text(b":").number(n).print();
 }

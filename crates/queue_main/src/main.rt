@@ -1,47 +1,29 @@
 // Runs the queue at its edges and writes every byte that it drains. A line is the result and how many frames wait; of a drain it is
 // the result, how many frames were written and how many wait then, and the next line the whole buffer.
-use libc::STDOUT_FILENO;
+use lines::Line;
 use queue::Heads;
 use queue::Room;
 use queue::reply::Pushed;
 use queue::reply::Reply;
 
-fn number(n: u8) {
-    io::print_decimal(STDOUT_FILENO, n as u64);
-}
-
-fn hex(b: u8) {
-    io::print_hex(STDOUT_FILENO, b as u64, 2);
-}
-
 // One line: the answer to a push.
 fn told(pushed: Pushed) -> u8 {
-    number(pushed.result);
-    io::write_all(STDOUT_FILENO, b" ");
-    number(pushed.count);
-    io::write_all(STDOUT_FILENO, b"\n");
+    Line::new()
+        .number(pushed.result as u64)
+        .number(pushed.count as u64)
+        .print();
     pushed.count
-}
-
-fn line(bytes: &[u8]) {
-    let mut i = 0;
-    while i < bytes.len() {
-        hex(bytes[i]);
-        i += 1;
-    }
-    io::write_all(STDOUT_FILENO, b"\n");
 }
 
 // Two lines: the answer to a drain, and the buffer.
 fn drain(count: u8, heads: &Heads, room: &Room, out: &mut [u8]) {
     let drained = queue::drain::drain(count, heads, room, out);
-    number(drained.result);
-    io::write_all(STDOUT_FILENO, b" ");
-    number(drained.frames);
-    io::write_all(STDOUT_FILENO, b" ");
-    number(drained.count);
-    io::write_all(STDOUT_FILENO, b"\n");
-    line(out);
+    Line::new()
+        .number(drained.result as u64)
+        .number(drained.frames as u64)
+        .number(drained.count as u64)
+        .print();
+    Line::new().lower_hex(out).print();
 }
 
 // A positive reply of three bytes to destination 3712.

@@ -1,92 +1,112 @@
 // The clock, the codes, the rules of frames and the value table, each at its edges. What it must write was worked out by hand from the rules in
 // docs/PROMISES.md. Codes and bytes are in hex, other numbers decimal.
-mod show;
-
-use show::flag;
-use show::hex;
-use show::number;
-use show::outcome;
-use show::text;
+use lines::Line;
 use uds::clock::Duration;
 use uds::clock::Instant;
 use uds::frame;
 use uds::nrc::Nrc;
 use uds::nrc::Rate;
 use uds::values;
+use uds::values::Outcome;
 
 // Sums at and past the last moment, differences after a clock that went forth and back, and the three comparisons.
 fn clock() {
     let last = Instant(Instant::LAST);
-    text(b"clock:");
-    number(Instant(5).plus(Duration(3)).0);
-    number(last.plus(Duration(1)).0);
-    number(Instant(8).since(Instant(5)).0);
-    number(Instant(5).since(Instant(8)).0);
-    flag(Instant(5).is_before(Instant(5)));
-    flag(Instant(5).is_before(Instant(6)));
-    flag(Duration(5).exceeds(Duration(5)));
-    flag(Duration(6).exceeds(Duration(5)));
-    number(Duration(5).larger(Duration(6)).0);
-    text(b"\n");
+    Line::new()
+        .text(b"clock:")
+        .number(Instant(5).plus(Duration(3)).0)
+        .number(last.plus(Duration(1)).0)
+        .number(Instant(8).since(Instant(5)).0)
+        .number(Instant(5).since(Instant(8)).0)
+        .flag(Instant(5).is_before(Instant(5)))
+        .flag(Instant(5).is_before(Instant(6)))
+        .flag(Duration(5).exceeds(Duration(5)))
+        .flag(Duration(6).exceeds(Duration(5)))
+        .number(Duration(5).larger(Duration(6)).0)
+        .print();
 }
 
-// Every code that is withheld after a functional request, and the three rates.
+// Every code that is withheld after a functional request.
 fn codes() {
-    text(b"withheld:");
+    let mut line = Line::new().text(b"withheld:");
     let mut code: u8 = 0;
     while code < 255 {
         code += 1;
         if Nrc(code).withheld() {
-            hex(code);
+            line = line.lower_hex(&[code]);
         }
     }
-    text(b"\nrates:");
-    number(Rate(1).interval().0);
-    number(Rate(2).interval().0);
-    number(Rate(3).interval().0);
-    text(b"\n");
+    line.print();
+}
+
+// The three rates.
+fn rates() {
+    Line::new()
+        .text(b"rates:")
+        .number(Rate(1).interval().0)
+        .number(Rate(2).interval().0)
+        .number(Rate(3).interval().0)
+        .print();
 }
 
 // The first byte and what follows, of a frame and of none; the sub-function with and without its bit 7.
 fn first_bytes() {
-    text(b"service:");
-    hex(frame::sid(b"\x22\xF1\x90"));
-    hex(frame::sid(b""));
-    number(frame::payload(b"\x22\xF1\x90").len() as u64);
-    number(frame::payload(b"").len() as u64);
-    text(b"\nsub-function:");
-    hex(frame::sub_function(b"\x83"));
-    hex(frame::sub_function(b"\x7F"));
-    hex(frame::sub_function(b""));
-    flag(frame::suppressed(b"\x80"));
-    flag(frame::suppressed(b"\x7F"));
-    flag(frame::suppressed(b""));
-    text(b"\n");
+    Line::new()
+        .text(b"service:")
+        .lower_hex(&[frame::sid(b"\x22\xF1\x90")])
+        .lower_hex(&[frame::sid(b"")])
+        .number(frame::payload(b"\x22\xF1\x90").len() as u64)
+        .number(frame::payload(b"").len() as u64)
+        .print();
+    Line::new()
+        .text(b"sub-function:")
+        .lower_hex(&[frame::sub_function(b"\x83")])
+        .lower_hex(&[frame::sub_function(b"\x7F")])
+        .lower_hex(&[frame::sub_function(b"")])
+        .flag(frame::suppressed(b"\x80"))
+        .flag(frame::suppressed(b"\x7F"))
+        .flag(frame::suppressed(b""))
+        .print();
 }
 
-// Nibbles, the periodic page, bit 6, and numbers of two bytes.
+// Nibbles, the periodic page, bit 6.
 fn bits() {
-    text(b"bits:");
-    number(frame::high_nibble(0xA5) as u64);
-    number(frame::low_nibble(0xA5) as u64);
-    number(frame::periodic_did(0xFF) as u64);
-    hex(frame::response(0x22));
-    hex(frame::response(0x62));
-    text(b"\ntwo bytes:");
-    number(frame::identifier(0xF1, 0x90) as u64);
-    number(frame::word(b"\x00\xF1\x90", 1) as u64);
-    number(frame::word(b"\x00\xF1\x90", 2) as u64);
-    let both = frame::two_bytes(0x1_2345);
-    hex(both.0);
-    hex(both.1);
-    hex(frame::byte(b"\x07", 0));
-    hex(frame::byte(b"\x07", 1));
-    text(b"\n");
+    Line::new()
+        .text(b"bits:")
+        .number(frame::high_nibble(0xA5) as u64)
+        .number(frame::low_nibble(0xA5) as u64)
+        .number(frame::periodic_did(0xFF) as u64)
+        .lower_hex(&[frame::response(0x22)])
+        .lower_hex(&[frame::response(0x62)])
+        .print();
 }
 
-// What the table says of an identifier, at the limit of 256.
+// Numbers of two bytes.
+fn two_bytes() {
+    let both = frame::two_bytes(0x1_2345);
+    Line::new()
+        .text(b"two bytes:")
+        .number(frame::identifier(0xF1, 0x90) as u64)
+        .number(frame::word(b"\x00\xF1\x90", 1) as u64)
+        .number(frame::word(b"\x00\xF1\x90", 2) as u64)
+        .lower_hex(&[both.0])
+        .lower_hex(&[both.1])
+        .lower_hex(&[frame::byte(b"\x07", 0)])
+        .lower_hex(&[frame::byte(b"\x07", 1)])
+        .print();
+}
+
+// What the table says of an identifier, at the limit of 256: where the bytes stand and how many they are, or the error byte.
 fn read(what: &[u8], words: &[u32], pool: &[u8], identifier: u16) {
-    outcome(what, values::value(words, pool, identifier, 256));
+    let line = Line::new().text(what);
+    match values::value(words, pool, identifier, 256) {
+        Outcome::Bytes { start, len } => {
+            line.number(start as u64).number(len as u64).print();
+        }
+        Outcome::Error(code) => {
+            line.text(b" error").lower_hex(&[code]).print();
+        }
+    }
 }
 
 // Eight rows over four bytes, and three words that make no row: in the pool, its identifier again, with an error byte, exactly to the end, a byte past
@@ -152,8 +172,10 @@ fn long() {
 fn main() {
     clock();
     codes();
+    rates();
     first_bytes();
     bits();
+    two_bytes();
     table();
     long();
 }

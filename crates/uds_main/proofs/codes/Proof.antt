@@ -1,13 +1,17 @@
+-- All 255 codes, one a turn.
 use Prim.Native.Nat.{_≤_, _-_}
 use borrow.Author.Needs.{needs}
 use Rattle.uds_main.proofs.codes.Statement.{statement}
 use Rattle.uds_main.proofs.codes.Tie as tie
 
 abbrev Inv-loop : tie.InvT-loop
-Inv-loop code₀ t3 t4 code = code ≤ 255
+Inv-loop line₀ code₀ line code = code ≤ 255
 
 abbrev μ-loop : tie.MeasureT-loop
-μ-loop code₀ t3 t4 code = 255 - code
+μ-loop line₀ code₀ line code = 255 - code
+
+new-requires : tie.Need-new-requires Inv-loop μ-loop
+new-requires c κs = search needs
 
 slice-aggregate-text : tie.Need-slice-aggregate-text Inv-loop μ-loop
 slice-aggregate-text c = search needs
@@ -24,8 +28,11 @@ add-code c = search needs
 withheld-requires : tie.Need-withheld-requires Inv-loop μ-loop
 withheld-requires c κs = search needs
 
-hex-requires : tie.Need-hex-requires Inv-loop μ-loop
-hex-requires c κs = search needs
+slice-aggregate-lower-hex : tie.Need-slice-aggregate-lower-hex Inv-loop μ-loop
+slice-aggregate-lower-hex c = search needs
+
+lower-hex-requires : tie.Need-lower-hex-requires Inv-loop μ-loop
+lower-hex-requires c κs = search needs
 
 loop-less : tie.Need-loop-less Inv-loop μ-loop
 loop-less c = search needs
@@ -39,35 +46,8 @@ loop-less-2 c = search needs
 loop-again-2 : tie.Need-loop-again-2 Inv-loop μ-loop
 loop-again-2 c = search needs
 
-slice-aggregate-text-2 : tie.Need-slice-aggregate-text-2 Inv-loop μ-loop
-slice-aggregate-text-2 c = search needs
-
-text-requires-2 : tie.Need-text-requires-2 Inv-loop μ-loop
-text-requires-2 c κs = search needs
-
-interval-requires : tie.Need-interval-requires Inv-loop μ-loop
-interval-requires c κs = search needs
-
-number-requires : tie.Need-number-requires Inv-loop μ-loop
-number-requires c κs = search needs
-
-interval-requires-2 : tie.Need-interval-requires-2 Inv-loop μ-loop
-interval-requires-2 c κs = search needs
-
-number-requires-2 : tie.Need-number-requires-2 Inv-loop μ-loop
-number-requires-2 c κs = search needs
-
-interval-requires-3 : tie.Need-interval-requires-3 Inv-loop μ-loop
-interval-requires-3 c κs = search needs
-
-number-requires-3 : tie.Need-number-requires-3 Inv-loop μ-loop
-number-requires-3 c κs = search needs
-
-slice-aggregate-text-3 : tie.Need-slice-aggregate-text-3 Inv-loop μ-loop
-slice-aggregate-text-3 c = search needs
-
-text-requires-3 : tie.Need-text-requires-3 Inv-loop μ-loop
-text-requires-3 c κs = search needs
+print-requires : tie.Need-print-requires Inv-loop μ-loop
+print-requires c κs = search needs
 
 returns : tie.Need-returns Inv-loop μ-loop
 returns c = search needs
@@ -78,24 +58,17 @@ codes-spec =
     (tie.spec
     Inv-loop
     μ-loop
+    new-requires
     slice-aggregate-text
     text-requires
     loop-holds
     add-code
     withheld-requires
-    hex-requires
+    slice-aggregate-lower-hex
+    lower-hex-requires
     loop-less
     loop-again
     loop-less-2
     loop-again-2
-    slice-aggregate-text-2
-    text-requires-2
-    interval-requires
-    number-requires
-    interval-requires-2
-    number-requires-2
-    interval-requires-3
-    number-requires-3
-    slice-aggregate-text-3
-    text-requires-3
+    print-requires
     returns)
