@@ -6,8 +6,9 @@ use native.Mathlib.Omega.{arith}
 use lib.ListN.{length, getD, set, length-set}
 use lib.Seq.{paste, getD-set-same, getD-set-other}
 use Rattle.model.specs.Config.{SessionConfig, ServiceConfig, DidConfig, SecurityLevelConfig, Config}
+use Rattle.model.specs.Numbers.{maxListed}
 use Rattle.uds.specs.Table.{tab, column}
-use Rattle.config.specs.View.{listAt, sessionAt, serviceAt, didAt, levelAt, sessionCount, serviceCount, didCount, levelCount, configOf}
+use Rattle.config.specs.View.{capped, listAt, sessionAt, serviceAt, didAt, levelAt, sessionCount, serviceCount, didCount, levelCount, configOf}
 use Rattle.config.specs.Build.{addSession, addService, addDid, addLevel}
 use Rattle.uds.proofs.Tab.{tab-same, tab-snoc}
 use Rattle.uds.proofs.Paste.{pasted-in, pasted-before, pasted-after}
@@ -39,10 +40,10 @@ Same w v from to = (j : ℕ) → from ≤ j → j < to → getD v j 0 ≡ getD w
 
 module _ (w v : List ℕ) where
   -- on a list, which its count and eight words hold
-  list-same : (at : ℕ) → getD w at 0 ≤ 8 → Same w v at (at + 9) → listAt v at ≡ listAt w at
-  list-same at s h =
-      ap (tab (column v (at + 1) 1) 0) (h at (omega arith) (omega arith))
-      ∙ tab-same (column v (at + 1) 1) (column w (at + 1) 1) 0 (getD w at 0) (λ k p q. h (at + 1 + k * 1) (omega arith) (omega arith))
+  list-same : (at : ℕ) → Same w v at (at + 9) → listAt v at ≡ listAt w at
+  list-same at h =
+      ap (λ (n : ℕ). tab (column v (at + 1) 1) 0 (capped n maxListed)) (h at (omega arith) (omega arith))
+      ∙ tab-same (column v (at + 1) 1) (column w (at + 1) 1) 0 (capped (getD w at 0) maxListed) (λ k p q. h (at + 1 + k * 1) (omega arith) (omega arith))
 
   -- on each table
   pub sessions-same : (m : ℕ) → Same w v 6 (6 + m * 4) → tab (sessionAt v) 0 m ≡ tab (sessionAt w) 0 m
@@ -50,21 +51,21 @@ module _ (w v : List ℕ) where
       tab-same (sessionAt v) (sessionAt w) 0 m
       (λ i p q. rw (h (6 + i * 4) (omega arith) (omega arith), h (7 + i * 4) (omega arith) (omega arith), h (8 + i * 4) (omega arith) (omega arith), h (9 + i * 4) (omega arith) (omega arith)))
 
-  pub services-same : (m : ℕ) → ((i : ℕ) → i < m → getD w (39 + i * 10) 0 ≤ 8) → Same w v 38 (38 + m * 10) → tab (serviceAt v) 0 m ≡ tab (serviceAt w) 0 m
-  services-same m s h =
+  pub services-same : (m : ℕ) → Same w v 38 (38 + m * 10) → tab (serviceAt v) 0 m ≡ tab (serviceAt w) 0 m
+  services-same m h =
       tab-same (serviceAt v) (serviceAt w) 0 m
-      (λ i p q. rw (h (38 + i * 10) (omega arith) (omega arith), list-same (39 + i * 10) (s i (omega arith)) (λ j a b. h j (omega arith) (omega arith))))
+      (λ i p q. rw (h (38 + i * 10) (omega arith) (omega arith), list-same (39 + i * 10) (λ j a b. h j (omega arith) (omega arith))))
 
-  pub dids-same : (m : ℕ) → ((i : ℕ) → i < m → getD w (281 + i * 21) 0 ≤ 8) → ((i : ℕ) → i < m → getD w (290 + i * 21) 0 ≤ 8) → Same w v 278 (278 + m * 21) → tab (didAt v) 0 m ≡ tab (didAt w) 0 m
-  dids-same m s t h =
+  pub dids-same : (m : ℕ) → Same w v 278 (278 + m * 21) → tab (didAt v) 0 m ≡ tab (didAt w) 0 m
+  dids-same m h =
       tab-same (didAt v) (didAt w) 0 m
       (λ i p q.
       rw (
         h (278 + i * 21) (omega arith) (omega arith),
         h (279 + i * 21) (omega arith) (omega arith),
         h (280 + i * 21) (omega arith) (omega arith),
-        list-same (281 + i * 21) (s i (omega arith)) (λ j a b. h j (omega arith) (omega arith)),
-        list-same (290 + i * 21) (t i (omega arith)) (λ j a b. h j (omega arith) (omega arith)),
+        list-same (281 + i * 21) (λ j a b. h j (omega arith) (omega arith)),
+        list-same (290 + i * 21) (λ j a b. h j (omega arith) (omega arith)),
       ))
 
   pub levels-same : (m : ℕ) → Same w v 2966 (2966 + m * 5) → tab (levelAt v) 0 m ≡ tab (levelAt w) 0 m
@@ -98,10 +99,10 @@ module _ (w v : List ℕ) (k : Kept w) where
   sessions-stay e h = rw e (sessions-same w v (sessionCount w) (λ j a b. h j a (omega (arith, k .sessions))))
 
   services-stay : getD v 3 0 ≡ getD w 3 0 → Same w v 38 278 → tab (serviceAt v) 0 (serviceCount v) ≡ tab (serviceAt w) 0 (serviceCount w)
-  services-stay e h = rw e (services-same w v (serviceCount w) (k .supported) (λ j a b. h j a (omega (arith, k .services))))
+  services-stay e h = rw e (services-same w v (serviceCount w) (λ j a b. h j a (omega (arith, k .services))))
 
   dids-stay : getD v 4 0 ≡ getD w 4 0 → Same w v 278 2966 → tab (didAt v) 0 (didCount v) ≡ tab (didAt w) 0 (didCount w)
-  dids-stay e h = rw e (dids-same w v (didCount w) (k .readable) (k .writable) (λ j a b. h j a (omega (arith, k .dids))))
+  dids-stay e h = rw e (dids-same w v (didCount w) (λ j a b. h j a (omega (arith, k .dids))))
 
   levels-stay : getD v 5 0 ≡ getD w 5 0 → Same w v 2966 3006 → tab (levelAt v) 0 (levelCount v) ≡ tab (levelAt w) 0 (levelCount w)
   levels-stay e h = rw e (levels-same w v (levelCount w) (λ j a b. h j a (omega (arith, k .levels))))
@@ -122,7 +123,7 @@ module _ (w v : List ℕ) (k : Kept w) where
       parts (b 0 (λ z. omega arith) (omega arith)) (b 1 (λ z. omega arith) (omega arith))
       (sessions-stay (b 2 (λ z. omega arith) (omega arith)) (λ j x h. b j (λ z. omega arith) h))
       (one-more (serviceAt v) (serviceAt w) (serviceCount w) (serviceCount v) r (g .count)
-      (services-same w v (serviceCount w) (k .supported) (λ j x h. g .before j (λ z. omega arith) h)) e)
+      (services-same w v (serviceCount w) (λ j x h. g .before j (λ z. omega arith) h)) e)
       (dids-stay (b 4 (λ z. omega arith) (omega arith)) (λ j x h. g .after j (omega arith)))
       (levels-stay (b 5 (λ z. omega arith) (omega arith)) (λ j x h. g .after j (omega arith)))
 
@@ -133,7 +134,7 @@ module _ (w v : List ℕ) (k : Kept w) where
       (sessions-stay (b 2 (λ z. omega arith) (omega arith)) (λ j x h. b j (λ z. omega arith) (omega arith)))
       (services-stay (b 3 (λ z. omega arith) (omega arith)) (λ j x h. b j (λ z. omega arith) h))
       (one-more (didAt v) (didAt w) (didCount w) (didCount v) r (g .count)
-      (dids-same w v (didCount w) (k .readable) (k .writable) (λ j x h. g .before j (λ z. omega arith) h)) e)
+      (dids-same w v (didCount w) (λ j x h. g .before j (λ z. omega arith) h)) e)
       (levels-stay (b 5 (λ z. omega arith) (omega arith)) (λ j x h. g .after j (omega arith)))
 
   pub level-added : (row : List ℕ) (r : SecurityLevelConfig) → levelCount w < 8 → Grown w v 5 (2966 + levelCount w * 5) row → levelAt v (levelCount w) ≡ r → configOf v ≡ addLevel (configOf w) r

@@ -18,57 +18,31 @@ use Rattle.config.specs.View.{listAt, sessionAt, serviceAt, didAt, level
 use Rattle.config.specs.Build.{addSession, addService, addDid, addLevel, settled, overfull, overfullWords}
 use Rattle.uds.proofs.Tab.{tab-length, next-row}
 
--- each row passes a test that all pass
-all-at : {B : Type 0} (p : B → Bool) (f : ℕ → B) (k n : ℕ) → all p (tab f k n) ≡ true → (i : ℕ) → k ≤ i → i < k + n → p (f i) ≡ true
-all-at p f k zero e i h l = absurd (omega arith)
-all-at p f k (suc n) e i h l = elim (decLe i k) [
-  | yes q ↦ (let z : k ≡ i = omega arith in rw (← z) (left (p (f k)) (all p (tab f (suc k) n)) e))
-  | no q ↦ (let g : k < i = lt-of-not-le q in all-at p f (suc k) n (right (p (f k)) (all p (tab f (suc k) n)) e) i (omega arith) (omega arith))
-]
-
--- a table that keeps its numbers has few rows, and each keeps them
-record Table {B : Type 0} (most : ℕ) (p : B → Bool) (f : ℕ → B) (n : ℕ) : Type 0 where
-  pub few : n ≤ most
-  pub each : (i : ℕ) → i < n → p (f i) ≡ true
-
-table : {B : Type 0} (most : ℕ) (p : B → Bool) (f : ℕ → B) (n : ℕ) → tableWithin most p (tab f 0 n) ≡ true → Table most p f n
-table most p f n e =
-    let k : leb (length (tab f 0 n)) most ≡ true = left _ (all p (tab f 0 n)) e in
-    record {
-      few = omega (arith, leb-true (length (tab f 0 n)) most k, tab-length f 0 n);
-      each = λ i h. all-at p f 0 n (right (leb (length (tab f 0 n)) most) _ e) i (omega arith) (omega arith);
-    }
-
-list-short : (w : List ℕ) (at : ℕ) → leb (length (listAt w at)) 8 ≡ true → getD w at 0 ≤ 8
-list-short w at e = omega (arith, leb-true (length (listAt w at)) 8 e, tab-length (column w (at + 1) 1) 0 (getD w at 0))
+-- a table that keeps its numbers has few rows
+few : {B : Type 0} (most : ℕ) (p : B → Bool) (f : ℕ → B) (n : ℕ) → tableWithin most p (tab f 0 n) ≡ true → n ≤ most
+few most p f n e = omega (arith, leb-true (length (tab f 0 n)) most (left _ (all p (tab f 0 n)) e), tab-length f 0 n)
 
 -- what an image keeps
 pub record Kept (w : List ℕ) : Type 0 where
   pub sessions : sessionCount w ≤ 8
   pub services : serviceCount w ≤ 24
-  pub supported : (i : ℕ) → i < serviceCount w → getD w (39 + i * 10) 0 ≤ 8
   pub dids : didCount w ≤ 128
-  pub readable : (i : ℕ) → i < didCount w → getD w (281 + i * 21) 0 ≤ 8
-  pub writable : (i : ℕ) → i < didCount w → getD w (290 + i * 21) 0 ≤ 8
   pub levels : levelCount w ≤ 8
 
 pub kept : (w : List ℕ) → within (configOf w) ≡ true → Kept w
 unfolding within
 kept w e =
-    let three = left _ (tableWithin maxLevels levelWithin (tab (levelAt w) 0 (levelCount w))) e in
-    let two = left _ (tableWithin maxDids didWithin (tab (didAt w) 0 (didCount w))) three in
-    let s = table maxSessions sessionWithin (sessionAt w) (sessionCount w) (left _ (tableWithin maxServices serviceWithin (tab (serviceAt w) 0 (serviceCount w))) two) in
-    let v = table maxServices serviceWithin (serviceAt w) (serviceCount w) (right (tableWithin maxSessions sessionWithin (tab (sessionAt w) 0 (sessionCount w))) _ two) in
-    let d = table maxDids didWithin (didAt w) (didCount w) (right (tableWithin maxSessions sessionWithin (tab (sessionAt w) 0 (sessionCount w)) && tableWithin maxServices serviceWithin (tab (serviceAt w) 0 (serviceCount w))) _ three) in
-    let l = table maxLevels levelWithin (levelAt w) (levelCount w) (right (tableWithin maxSessions sessionWithin (tab (sessionAt w) 0 (sessionCount w)) && tableWithin maxServices serviceWithin (tab (serviceAt w) 0 (serviceCount w)) && tableWithin maxDids didWithin (tab (didAt w) 0 (didCount w))) _ e) in
+    let s = tableWithin maxSessions sessionWithin (tab (sessionAt w) 0 (sessionCount w)) in
+    let v = tableWithin maxServices serviceWithin (tab (serviceAt w) 0 (serviceCount w)) in
+    let d = tableWithin maxDids didWithin (tab (didAt w) 0 (didCount w)) in
+    let l = tableWithin maxLevels levelWithin (tab (levelAt w) 0 (levelCount w)) in
+    let three : (s && v && d) ≡ true = left _ l e in
+    let two : (s && v) ≡ true = left _ d three in
     record {
-      sessions = s .few;
-      services = v .few;
-      supported = λ i h. list-short w (39 + i * 10) (v .each i h);
-      dids = d .few;
-      readable = λ i h. list-short w (281 + i * 21) (left _ (leb (length (listAt w (290 + i * 21))) 8) (left _ (ltb (getD w (280 + i * 21) 0) (2 ^ 32)) (d .each i h)));
-      writable = λ i h. list-short w (290 + i * 21) (right (leb (length (listAt w (281 + i * 21))) 8) _ (left _ (ltb (getD w (280 + i * 21) 0) (2 ^ 32)) (d .each i h)));
-      levels = l .few;
+      sessions = few maxSessions sessionWithin (sessionAt w) (sessionCount w) (left _ v two);
+      services = few maxServices serviceWithin (serviceAt w) (serviceCount w) (right s _ two);
+      dids = few maxDids didWithin (didAt w) (didCount w) (right (s && v) _ three);
+      levels = few maxLevels levelWithin (levelAt w) (levelCount w) (right (s && v && d) _ e);
     }
 
 -- one row more: there is room for it, and it keeps the numbers too

@@ -8,6 +8,7 @@ use lib.ListN.{length, getD}
 use lib.Dec.{leb, ltb}
 use borrow.Author.Tests.{leb-true, ltb-true}
 use Rattle.model.proofs.Laws.{left, right}
+use Rattle.model.specs.Numbers.{maxListed, maxSeed}
 use Rattle.model.specs.Config.{sessionWithin, serviceWithin, didWithin, levelWithin}
 use Rattle.uds.specs.declared.rows.SessionList.{SessionList}
 use Rattle.uds.specs.declared.rows.SessionConfig.{SessionConfig}
@@ -15,7 +16,7 @@ use Rattle.uds.specs.declared.rows.ServiceConfig.{ServiceConfig}
 use Rattle.uds.specs.declared.rows.DidConfig.{DidConfig}
 use Rattle.uds.specs.declared.rows.SecurityLevelConfig.{SecurityLevelConfig}
 use Rattle.uds.specs.Table.{tab, column}
-use Rattle.config.specs.View.{listAt, sessionAt, serviceAt, didAt, levelAt}
+use Rattle.config.specs.View.{capped, listAt, sessionAt, serviceAt, didAt, levelAt}
 use Rattle.uds.specs.Rows.{entryOf, listOf, sessionOf, serviceOf, didOf, levelOf}
 use Rattle.config.specs.Build.{low, listWords, sessionRow, serviceRow, didRow, levelRow}
 use Rattle.uds.proofs.Tab.{tab-length, tab-same}
@@ -23,6 +24,10 @@ use Rattle.config.proofs.Grown.{Grown}
 
 low-is : (x : ℕ) → x < 2 ^ 32 → low x ≡ x
 low-is x h = omega arith
+
+-- a number that keeps the limit is not cut
+kept-low : (x most : ℕ) → x ≤ most → most < 2 ^ 32 → capped (low x) most ≡ x
+kept-low x most h k = omega arith
 
 -- the eight sessions of a list stand in its words
 entries : (l : SessionList) (rest : List ℕ) (k : ℕ) → k < 8 → getD (listWords l rest) (suc k) 0 ≡ entryOf l k
@@ -41,7 +46,8 @@ short l e = omega (arith, leb-true (length (listOf l)) 8 e, tab-length (entryOf 
 
 list-new : (v : List ℕ) (at : ℕ) (l : SessionList) → l .count ≤ 8 → getD v at 0 ≡ low (l .count) → ((k : ℕ) → k < 8 → getD v (at + suc k) 0 ≡ entryOf l k) → listAt v at ≡ listOf l
 list-new v at l s c h =
-    ap (tab (column v (at + 1) 1) 0) (c ∙ low-is (l .count) (omega arith))
+    let n : capped (getD v at 0) maxListed ≡ l .count = rw c (kept-low (l .count) maxListed s (omega arith)) in
+    ap (tab (column v (at + 1) 1) 0) n
     ∙ tab-same (column v (at + 1) 1) (entryOf l) 0 (l .count) (λ k p q. let e : at + 1 + k * 1 ≡ at + suc k = omega arith in rw e (h k (omega arith)))
 
 module _ {w v : List ℕ} {counter at : ℕ} {row : List ℕ} (g : Grown w v counter at row) where
@@ -103,6 +109,6 @@ level-new w v n r g e =
       cell g 3 (2969 + n * 5) (omega arith) (omega arith),
       cell g 4 (2970 + n * 5) (omega arith) (omega arith),
       low-is (r .«lockout_duration» .0) (ltb-true _ _ (left a b (left (a && b) d e))),
-      low-is (r .«seed_length») (omega (arith, leb-true (r .«seed_length») 32 (right a b (left (a && b) d e)))),
-      low-is (r .«key_length») (omega (arith, leb-true (r .«key_length») 32 (right (a && b) d e))),
+      kept-low (r .«seed_length») maxSeed (leb-true (r .«seed_length») 32 (right a b (left (a && b) d e))) (omega arith),
+      kept-low (r .«key_length») maxSeed (leb-true (r .«key_length») 32 (right (a && b) d e)) (omega arith),
     )

@@ -1,16 +1,23 @@
 -- The configuration's words, and the configuration of the definition that they mean. A count says how many rows there are, whatever
--- the image has room for: so one that is too large is seen, and the definition's `within` refuses it. Words outside the image are 0.
-use Prim.Native.Nat.{ℕ, _+_, _*_}
+-- the image has room for: so one that is too large is seen, and the definition's `within` refuses it. What a row says is never too
+-- large: of a list's length no more than eight counts, of a seed's and a key's no more than 32, and a span is a word. Words outside the
+-- image are 0.
+use Prim.Native.Nat.{ℕ, _+_, _*_, min}
 use mathlib.Core.List.{List}
 use mathlib.Core.Bool.{Bool, false}
 use mathlib.Core.Option.{Option, some, none}
 use lib.ListN.{getD}
+use Rattle.model.specs.Numbers.{maxListed, maxSeed}
 use Rattle.model.specs.Config.{SessionConfig, ServiceConfig, DidConfig, SecurityLevelConfig, Config, allowedIn}
 use Rattle.uds.specs.Table.{tab, column}
 
--- a list: a count, and as many words after it
+-- a word of which no more than `most` counts
+abbrev pub capped : ℕ → ℕ → ℕ
+capped x most = min x most
+
+-- a list: a word that says how many sessions, at most eight, and as many words after it
 abbrev pub listAt : List ℕ → ℕ → List ℕ
-listAt w at = tab (column w (at + 1) 1) 0 (getD w at 0)
+listAt w at = tab (column w (at + 1) 1) 0 (capped (getD w at 0) maxListed)
 
 -- rows by their number: sessions of 4 words from 6 on
 abbrev pub sessionAt : List ℕ → ℕ → SessionConfig
@@ -36,8 +43,8 @@ levelAt w i = record {
   level = column w 2966 5 i;
   maxAttempts = column w 2967 5 i;
   lockout = column w 2968 5 i;
-  seedLength = column w 2969 5 i;
-  keyLength = column w 2970 5 i;
+  seedLength = capped (column w 2969 5 i) maxSeed;
+  keyLength = capped (column w 2970 5 i) maxSeed;
 }
 
 -- how many rows of each there are

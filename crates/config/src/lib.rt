@@ -1,12 +1,10 @@
 // The configuration: a lent image of words, and what is read from it. Only this crate knows where its words stand.
 ghost use mathlib.Core.Path.{_≡_};
 ghost use Prim.Native.Nat.{_+_, _*_};
-ghost use lib.ListN.{getD, length};
-ghost use Rattle.model.specs.Tests.{memb, all};
-ghost use Rattle.model.specs.Numbers.{maxSessions, maxServices, maxDids, maxLevels};
+ghost use Rattle.model.specs.Tests.{memb};
 ghost use Rattle.model.specs.Config as Model;
-ghost use Rattle.uds.specs.Table.{rowOf, Finds};
-ghost use Rattle.config.specs.View.{listAt, sessionAt, serviceAt, didAt, levelAt, sessionCount, serviceCount, didCount, levelCount, configOf, allowed, seedLengthOf, keyLengthOf};
+ghost use Rattle.uds.specs.Table.{column, rowOf, Finds};
+ghost use Rattle.config.specs.View.{capped, listAt, sessionAt, serviceAt, didAt, levelAt, sessionCount, serviceCount, didCount, levelCount, configOf, allowed, seedLengthOf, keyLengthOf};
 
 pub mod build;
 
@@ -19,7 +17,6 @@ use uds::nrc::DEFAULT_S3;
 use uds::rows::MAX_LISTED;
 use uds::rows::MAX_SEED;
 use uds::table::Found;
-use uds::table::at_most;
 use uds::table::cell;
 use uds::table::find;
 use uds::table::word;
@@ -172,6 +169,17 @@ pub fn find_security_level(config: &Config, level: u8) -> Found
     )
 }
 
+// A word of row `i` of which no more than `most` counts.
+fn capped(words: &[u32], from: usize, step: usize, i: usize, most: u32) -> u32
+    ensures { λ r. ⌜ r ≡ capped (column (now (words .entry)) from step i) most ⌝ }
+{
+    let x = cell(words, from, step, i);
+    if most < x {
+        return most;
+    }
+    x
+}
+
 // What a row that was found says, or the default where none was.
 pub fn p2(config: &Config, session: Found) -> Duration
     ensures { λ r. ⌜ r .0 ≡ Model.p2Of (rowOf (sessionAt (now (config .entry))) session) ⌝ }
@@ -243,7 +251,7 @@ pub fn seed_length(config: &Config, level: Found) -> usize
     let Found::At(i) = level else {
         return 0;
     };
-    cell(config, SEED_LENGTH, LEVEL_WORDS, i) as usize
+    capped(config, SEED_LENGTH, LEVEL_WORDS, i, MAX_SEED) as usize
 }
 
 pub fn key_length(config: &Config, level: Found) -> usize
@@ -252,14 +260,14 @@ pub fn key_length(config: &Config, level: Found) -> usize
     let Found::At(i) = level else {
         return 0;
     };
-    cell(config, KEY_LENGTH, LEVEL_WORDS, i) as usize
+    capped(config, KEY_LENGTH, LEVEL_WORDS, i, MAX_SEED) as usize
 }
 
 // A session stands in the list of row `i`, whose count stands at `from` in the first row.
 fn listed(words: &[u32], from: usize, step: usize, i: usize, session: u8) -> bool
     ensures { λ r. ⌜ r ≡ memb session (listAt (now (words .entry)) (from + i * step)) ⌝ }
 {
-    let n = cell(words, from, step, i) as usize;
+    let n = capped(words, from, step, i, MAX_LISTED) as usize;
     if n == 0 {
         return false;
     }
@@ -315,64 +323,25 @@ pub fn did_writable(config: &Config, identifier: u16, session_type: u8) -> bool
     writable_in(config, find_did(config, identifier), session_type)
 }
 
-// Each table keeps its numbers. Spans are words, so they are below 2^32 as they stand.
-fn sessions_within(words: &[u32]) -> bool
-    ensures { λ r. ⌜ r ≡ Model.tableWithin maxSessions Model.sessionWithin (configOf (now (words .entry)) .sessions) ⌝ }
+// Words keep the numbers where their four counts do: what is read of a row is never outside them.
+fn counts_within(words: &[u32]) -> bool
+    ensures { λ r. ⌜ r ≡ Model.within (configOf (now (words .entry))) ⌝ }
 {
     if MAX_SESSIONS < word(words, SESSIONS) as usize {
         return false;
     }
-    true
-}
-
-fn services_within(words: &[u32]) -> bool
-    ensures { λ r. ⌜ r ≡ Model.tableWithin maxServices Model.serviceWithin (configOf (now (words .entry)) .services) ⌝ }
-{
-    let n = word(words, SERVICES) as usize;
-    if MAX_SERVICES < n {
+    if MAX_SERVICES < word(words, SERVICES) as usize {
         return false;
     }
-    at_most(words, SUPPORTED_IN, SERVICE_WORDS, n, MAX_LISTED)
-}
-
-fn dids_within(words: &[u32]) -> bool
-    ensures { λ r. ⌜ r ≡ Model.tableWithin maxDids Model.didWithin (configOf (now (words .entry)) .dids) ⌝ }
-{
-    let n = word(words, DIDS) as usize;
-    if MAX_DIDS < n {
+    if MAX_DIDS < word(words, DIDS) as usize {
         return false;
     }
-    if !at_most(words, READABLE_IN, DID_WORDS, n, MAX_LISTED) {
-        return false;
-    }
-    at_most(words, WRITABLE_IN, DID_WORDS, n, MAX_LISTED)
-}
-
-fn levels_within(words: &[u32]) -> bool
-    ensures { λ r. ⌜ r ≡ Model.tableWithin maxLevels Model.levelWithin (configOf (now (words .entry)) .levels) ⌝ }
-{
-    let n = word(words, LEVELS) as usize;
-    if MAX_SECURITY_LEVELS < n {
-        return false;
-    }
-    if !at_most(words, SEED_LENGTH, LEVEL_WORDS, n, MAX_SEED) {
-        return false;
-    }
-    at_most(words, KEY_LENGTH, LEVEL_WORDS, n, MAX_SEED)
+    word(words, LEVELS) as usize <= MAX_SECURITY_LEVELS
 }
 
 // The configuration keeps the numbers.
 pub fn within(config: &Config) -> bool
     ensures { λ r. ⌜ r ≡ Model.within (configOf (now (config .entry))) ⌝ }
 {
-    if !sessions_within(config) {
-        return false;
-    }
-    if !services_within(config) {
-        return false;
-    }
-    if !dids_within(config) {
-        return false;
-    }
-    levels_within(config)
+    counts_within(config)
 }

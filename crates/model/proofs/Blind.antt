@@ -9,7 +9,7 @@ use Rattle.model.specs.Config.{SessionConfig, SecurityLevelConfig, findS
 use Rattle.model.specs.Values.{Outcome, bytes, error, Given, Table, outcome}
 use Rattle.model.specs.Frame.{subFunction, periodicDid}
 use Rattle.model.specs.State.{Subscription, Failed, Lock}
-use Rattle.model.specs.Reply.{Reply, positive}
+use Rattle.model.specs.Queue.{Reply, positive}
 use Rattle.model.specs.Service.{Seen, acted}
 use Rattle.model.specs.Service3E.{service3E}
 use Rattle.model.specs.Service10.{sessionControl, service10}

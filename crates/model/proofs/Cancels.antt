@@ -13,7 +13,7 @@ use Rattle.model.specs.Config.{ServiceConfig, findService, allowedIn}
 use Rattle.model.specs.Values.{given0, emptyTable}
 use Rattle.model.specs.Frame.{sidOf, periodicDid}
 use Rattle.model.specs.State.{AddressMode, Subscription, State, freshState}
-use Rattle.model.specs.Reply.{positive}
+use Rattle.model.specs.Queue.{positive}
 use Rattle.model.specs.Service.{Seen, Effect, Served, schedules, apply}
 use Rattle.model.specs.Service2A.{isSubscription, subscription, cancelAll, transmission, service2A}
 use Rattle.model.specs.Request.{Request, seen, served, service, request}

@@ -13,11 +13,15 @@ use Rattle.model.specs.Numbers.{maxTime}
 use Rattle.model.specs.Config.{findDid, readable}
 use Rattle.model.specs.Frame.{sidOf, periodicDid, negativeFrame}
 use Rattle.model.specs.State.{Subscription, AddressMode, PendingRequest, State, received, valid}
-use Rattle.model.specs.Reply.{positive, negative, queued}
+use Rattle.model.specs.Queue.{positive, negative}
+use Rattle.model.specs.Reply.{queued}
 use Rattle.model.specs.Service.{Seen, schedules}
 use Rattle.model.specs.Service2A.{rateOf, register, intervalFor, registered, registerAll}
 use Rattle.model.specs.Request.{Request, plain, heard, addressed, routed, request}
-use Rattle.model.specs.Drain.{records, drain}
+use Rattle.model.specs.Queue as Queue
+use Rattle.model.specs.Queue.{records}
+use Rattle.model.specs.Drain.{drain}
+use Rattle.model.proofs.Valid.Parts.{valid-parts}
 
 -- subscriptions that were registered stay when a later identifier is refused
 module _ (v : Seen) (mode : ℕ) where
@@ -61,10 +65,10 @@ pub record Drains (s : State) (before after : List ℕ) (count : ℕ) (u : State
 
 pub drained : (limit : ℕ) (s : State) (b : List ℕ) → valid limit s ≡ true → length (records (s .queue)) ≤ length b
     → Drains s b (drain limit s b .buffer) (drain limit s b .count) (drain limit s b .step .state)
-unfolding drain
+unfolding drain Queue.drained
 drained limit s b v h =
     let r = records (s .queue) in
-    rw (v, le-leb (length r) (length b) h)
+    rw (v, valid-parts limit s v .queue, le-leb (length r) (length b) h)
     (record {
       front = take-append-seam r (drop (length r) b);
       rest = drop-append-seam r (drop (length r) b);

@@ -1,23 +1,23 @@
 -- A pending request ends by complete or fail, past 10 and 6, and by nothing else. Until then it is owed to the same destination for the same service.
-use Prim.Native.Nat.{ℕ, suc, _+_, _≤_}
+use Prim.Native.Nat.{ℕ, _+_, _≤_}
 use mathlib.Core.Path.{_≡_, refl, sym, _∙_}
 use mathlib.Core.Bool.{true}
 use mathlib.Core.Logic.{_↔_, _⊎_, inl, inr}
 use mathlib.Core.List.{List, [], _∷_}
 use mathlib.Core.Option.{Option, some, none, Option·none-ne-some, Option·some-ne-none}
-use lib.ListN.{length, replicate}
-use lib.Dec.{leb, ltb, eqb}
+use lib.ListN.{replicate}
+use lib.Dec.{leb, eqb}
 use borrow.Author.Tests.{le-leb}
-use Rattle.model.specs.Numbers.{Moment, maxFrame, maxOutbox, maxTime}
+use Rattle.model.specs.Numbers.{Moment, maxFrame, maxTime}
 use Rattle.model.specs.Config.{findSession, p2ExtOf}
 use Rattle.model.specs.Values.{Table, emptyTable}
-use Rattle.model.specs.Frame.{sidOf, positiveFrame, negativeFrame}
+use Rattle.model.specs.Frame.{sidOf, negativeFrame}
 use Rattle.model.specs.State.{AddressMode, PendingRequest, State, Step, freshState, valid, withPending, received}
-use Rattle.model.specs.Reply.{queued, withheld, refused, confirmed, begun}
+use Rattle.model.specs.Reply.{queued, confirmed, begun}
 use Rattle.model.specs.Request.{Request, Answer, heard, addressed, routed, request}
 use Rattle.model.specs.Pending.{completed, failed, complete, fail}
 use Rattle.model.specs.Tick.{expired, s3, refreshed, Ticked, thenPeriodic, ticked, tick}
-use Rattle.model.specs.Drain.{records, Drained, drain}
+use Rattle.model.specs.Drain.{Drained, drain}
 use Rattle.model.specs.History.{Call, requests, questions, ticks, completes, fails, drains, call}
 use Rattle.model.specs.Fixed.{fixedConfig}
 use Rattle.model.specs.Alike.{inbound, asking}
@@ -33,14 +33,12 @@ Pends o p = p .state .pending ≡ o
 -- a frame queued leaves it as it is
 queued-pends : (s : State) (to : ℕ) (b : List ℕ) → Pends (s .pending) (queued s to b)
 unfolding queued
-queued-pends s to b = either (Pends (s .pending)) (ltb (length (s .queue)) maxOutbox) refl refl
+queued-pends s to b = refl
 
 -- and so does a positive payload, or 0x14 in its place
 confirmed-pends : (limit : ℕ) (s : State) (to sid : ℕ) (p : List ℕ) → Pends (s .pending) (confirmed limit s to sid p)
-unfolding confirmed refused
-confirmed-pends limit s to sid p =
-    either (Pends (s .pending)) (leb (suc (length p)) limit) (queued-pends s to (positiveFrame sid p))
-    (either (Pends (s .pending)) (withheld (s .mode) 0x14) refl (queued-pends s to (negativeFrame sid 0x14)))
+unfolding confirmed
+confirmed-pends limit s to sid p = refl
 
 -- a call that ends a pending request
 abbrev pub Final : Call → Type 0
@@ -87,7 +85,7 @@ module _ (limit : ℕ) (p : PendingRequest) where
 
   -- the second step of a tick: only the deadline moves
   refreshed-owed : (s : State) (now : Moment) (o : Option PendingRequest) → o ≡ some p → s .pending ≡ some p → Owed (Unit {0}) p (refreshed s now o .state .pending)
-  unfolding refreshed begun
+  unfolding refreshed begun queued
   refreshed-owed s now none e h = absurd (Option·none-ne-some p e)
   refreshed-owed s now (some q) e h =
       either (λ (a : Step). Owed (Unit {0}) p (a .state .pending)) (leb (q .deadline) now)
@@ -123,7 +121,7 @@ module _ (limit : ℕ) (p : PendingRequest) where
       Left a = Owed (Unit {0}) p (a .step .state .pending)
   stays-pending s (completes now payload) n h = absurd (n tt)
   stays-pending s (fails now code) n h = absurd (n tt)
-  stays-pending s (drains buffer) n h = either Left (valid limit s) (either Left (leb (length (records (s .queue))) (length buffer)) (same-owed h) (same-owed h)) (same-owed h)
+  stays-pending s (drains buffer) n h = either Left (valid limit s) (same-owed h) (same-owed h)
     where
       Left : Drained → Type 0
       Left d = Owed ⊥ p (d .step .state .pending)

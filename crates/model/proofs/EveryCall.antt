@@ -13,8 +13,10 @@ use Rattle.model.specs.State.{Session, Security, Subscription, PendingRe
 use Rattle.model.specs.Service.{Seen, Served}
 use Rattle.model.specs.Request.{Request, Answer, seen, served, lengthFits, heard, addressed, routed, request}
 use Rattle.model.specs.Pending.{completed, failed, complete, fail}
-use Rattle.model.specs.Tick.{expired, s3, refreshed, Passed, advanced, dueSent, passOne, passAll, Ticked, begins, thenPeriodic, ticked, tick}
-use Rattle.model.specs.Drain.{records, Drained, drain}
+use Rattle.model.specs.Tick.{expired, s3, refreshed, Passed, advanced, passed, dueSent, passOne, passAll, Ticked, begins, thenPeriodic, ticked, tick}
+use Rattle.model.specs.Queue as Queue
+use Rattle.model.specs.Queue.{QueueStep, pushed}
+use Rattle.model.specs.Drain.{Drained, drain}
 use Rattle.model.specs.History.{Call, requests, questions, ticks, completes, fails, drains, call, run}
 use Rattle.model.proofs.Dispatch.{at-guarded}
 use Rattle.model.proofs.Laws.{either}
@@ -44,7 +46,7 @@ sent-last e (sent a) = sent (sent-last e a)
 module _ (limit : ℕ) (now : Moment) (table : Table) where
   -- one entry
   one-advances : (t : List Subscription) (a : Passed) (e : Subscription) → Advances now t (a .entries) → Advances now (t ++ (e ∷ [])) (passOne limit now table a e .entries)
-  unfolding passOne dueSent
+  unfolding passOne dueSent passed Queue.sent pushed
   one-advances t a e h = either Going (eqb (a .result) 0 && leb (e .next) now) (due (value limit table (e .identifier))) (stands-last e h)
     where
       Going : Passed → Type 0
@@ -52,7 +54,10 @@ module _ (limit : ℕ) (now : Moment) (table : Table) where
 
       due : (o : Outcome) → Going (dueSent limit now a e o)
       due (error code) = stands-last e h
-      due (bytes b) = either Going (leb (suc (length b)) limit) (either Going (ltb (length (a .queue)) maxOutbox) (sent-last e h) (stands-last e h)) (stands-last e h)
+      due (bytes b) = either On (leb (suc (length b)) limit) (either On (ltb (length (a .queue)) maxOutbox) (sent-last e h) (stands-last e h)) (stands-last e h)
+        where
+          On : QueueStep → Type 0
+          On p = Going (passed now a e p)
 
   -- those behind the entries that have passed
   all-advance : (t es : List Subscription) (a : Passed) → Advances now t (a .entries) → Advances now (t ++ es) (passAll limit now table es a .entries)
@@ -176,7 +181,7 @@ module _ (Q : Config → Security → List Subscription → Type 0) (N : ℕ →
         Ticks a = Leaves (a .step)
     keeps-call s (completes now p) n h = either Leaves (valid limit s) (either Leaves (leb now maxTime) (keeps-completed s p (s .pending) h) h) h
     keeps-call s (fails now code) n h = either Leaves (valid limit s) (either Leaves (leb now maxTime) (keeps-failed s code (s .pending) h) h) h
-    keeps-call s (drains b) n h = either Drains (valid limit s) (either Drains (leb (length (records (s .queue))) (length b)) h h) h
+    keeps-call s (drains b) n h = either Drains (valid limit s) h h
       where
         Drains : Drained → Type 0
         Drains d = Leaves (d .step)

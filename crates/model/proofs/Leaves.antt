@@ -20,11 +20,14 @@ use Rattle.model.specs.Frame.{sidOf, negativeFrame}
 use Rattle.model.specs.State.{AddressMode, PendingRequest, State, Step, step, freshState, fresh, valid, withPending, received}
 use Rattle.model.specs.Request.{Request, Answer, plain, served, carried, lengthFits, heard, addressed, routed, request}
 use Rattle.model.specs.Pending.{completed, failed, complete, fail}
-use Rattle.model.specs.Drain.{records, written, unmoved, drain}
+use Rattle.model.specs.Queue as Queue
+use Rattle.model.specs.Queue.{records, written, drained}
+use Rattle.model.specs.Drain.{unmoved, drain}
 use Rattle.model.specs.History.{Call, requests, questions, ticks, completes, fails, drains, call}
 use Rattle.model.proofs.Laws.{either, Each, memb-each, memb-never}
 use Rattle.model.proofs.Leaves.Replies.{Full, Unmoved, queued-unmoved, confirmed-unmoved, queued-answered, confirmed-answered, apply-gives}
 use Rattle.model.proofs.Leaves.Results.{timeOf, refusedBy, passing, mayGive, routed-gives, call-10, call-6, call-passing}
+use Rattle.model.proofs.Valid.Parts.{valid-parts}
 
 -- a call ends in one of three ways: by 10, by 6, or past both with another number
 pub data Ends (limit : ℕ) (s : State) (c : Call) : Type 0 where
@@ -182,18 +185,18 @@ module _ (limit : ℕ) (s : State) (v : valid limit s ≡ true) where
 
   -- 5 is given by drain exactly when the records exceed the buffer
   pub drain-5 : (buffer : List ℕ) → (drain limit s buffer .step .result ≡ 5) ↔ (length buffer < length (records (s .queue)))
-  unfolding drain
-  drain-5 buffer = rw v (go (leb (length (records (s .queue))) (length buffer)) refl, λ h. rw (lt-leb (length (records (s .queue))) (length buffer) h) refl)
+  unfolding drain drained
+  drain-5 buffer = rw (v, valid-parts limit s v .queue) (go (leb (length (records (s .queue))) (length buffer)) refl, λ h. rw (lt-leb (length (records (s .queue))) (length buffer) h) refl)
     where
       go : (t : Bool) → leb (length (records (s .queue))) (length buffer) ≡ t
-          → pick t (written s buffer) (unmoved 5 s buffer) .step .result ≡ 5 → length buffer < length (records (s .queue))
+          → pick t (written (s .queue) buffer) (Queue.unmoved 5 (s .queue) buffer) .result ≡ 5 → length buffer < length (records (s .queue))
       go true e z = absurd (omega arith)
       go false e z = leb-false (length (records (s .queue))) (length buffer) e
 
   -- and leaves state and buffer unchanged, with no frame drained
   pub drain-5-leaves : (buffer : List ℕ) → length buffer < length (records (s .queue)) → drain limit s buffer ≡ unmoved 5 s buffer
-  unfolding drain
-  drain-5-leaves buffer h = rw (v, lt-leb (length (records (s .queue))) (length buffer) h) refl
+  unfolding drain drained
+  drain-5-leaves buffer h = rw (v, valid-parts limit s v .queue, lt-leb (length (records (s .queue))) (length buffer) h) refl
 
 -- 3, of a request: the queue is the old queue, and 16 frames were held
 pub request-3 : (limit : ℕ) (s : State) (r : Request) → request limit s r .step .result ≡ 3 → (request limit s r .step .state .queue ≡ s .queue) × (maxOutbox ≤ length (s .queue))

@@ -9,7 +9,7 @@ use Rattle.model.specs.Numbers.{maxDownload}
 use Rattle.model.specs.Config.{findDid, writable}
 use Rattle.model.specs.Values.{Outcome, bytes, error, outcome}
 use Rattle.model.specs.Frame.{word}
-use Rattle.model.specs.Reply.{Reply, positive}
+use Rattle.model.specs.Queue.{Reply, positive}
 use Rattle.model.specs.Service.{Seen, Effect, Served, says, acted}
 use Rattle.model.specs.Service3E.{service3E}
 use Rattle.model.specs.Service22.{service22, heldFor}

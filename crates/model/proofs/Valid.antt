@@ -12,17 +12,18 @@ use lib.ListN.{length}
 use lib.Dec.{leb}
 use borrow.Author.Tests.{leb-true}
 use Rattle.model.specs.Tests.{pick}
-use Rattle.model.specs.Numbers.{Moment, maxTime}
-use Rattle.model.specs.Config.{Config, emptyConfig, within, findService}
+use Rattle.model.specs.Numbers.{Moment, maxTime, maxOutbox}
+use Rattle.model.specs.Config.{Config, emptyConfig, within, findService, tableWithin}
 use Rattle.model.specs.Frame.{sidOf}
-use Rattle.model.specs.State.{AddressMode, PendingRequest, State, Step, step, freshState, fresh, valid, withPending, received, securityValid}
+use Rattle.model.specs.State.{AddressMode, PendingRequest, State, Step, step, freshState, fresh, frameValid, valid, withPending, received, securityValid}
 use Rattle.model.specs.Request.{Request, Answer, plain, seen, served, lengthFits, heard, addressed, routed, request}
 use Rattle.model.specs.Pending.{completed, failed, complete, fail}
 use Rattle.model.specs.Tick.{Ticked, ticked, tick}
-use Rattle.model.specs.Drain.{Drained, records, drain}
+use Rattle.model.specs.Queue.{QueueDrain, records, drained}
+use Rattle.model.specs.Drain.{Drained, drain}
 use Rattle.model.specs.History.{Call, requests, questions, ticks, completes, fails, drains, call, run}
 use Rattle.model.proofs.Laws.{either}
-use Rattle.model.proofs.Valid.Parts.{Valid, valid-parts, parts-valid, now-valid}
+use Rattle.model.proofs.Valid.Parts.{Queued, Valid, valid-parts, parts-valid, now-valid}
 use Rattle.model.proofs.Valid.Replies.{ValidStep, pending-valid, negative-valid, confirmed-valid, apply-valid}
 use Rattle.model.proofs.Valid.Services.{Sound, guarded-fits}
 use Rattle.model.proofs.Valid.Tick.{ticked-valid}
@@ -74,12 +75,17 @@ module _ (limit : ℕ) (room : 3 ≤ limit) where
 
   -- the queue is emptied, or stands
   drained-valid : (s : State) (b : List ℕ) → Valid limit s → Valid limit (drain limit s b .step .state)
-  unfolding drain
+  unfolding drain drained
   drained-valid s b h =
       either (λ (d : Drained). ValidStep limit (d .step)) (valid limit s)
-      (either (λ (d : Drained). ValidStep limit (d .step)) (leb (length (records (s .queue))) (length b))
-      (record { config = h .config; lastRx = h .lastRx; security = h .security; periodic = h .periodic; pending = h .pending; queue = refl }) h)
+      (record { config = h .config; lastRx = h .lastRx; security = h .security; periodic = h .periodic; pending = h .pending; queue = left })
       h
+    where
+      Left : QueueDrain → Type 0
+      Left d = Queued limit (d .queue)
+
+      left : Left (drained limit (s .queue) b)
+      left = either Left (tableWithin maxOutbox (frameValid limit) (s .queue)) (either Left (leb (length (records (s .queue))) (length b)) refl (h .queue)) (h .queue)
 
   -- each call by its kind
   call-parts : (s : State) (c : Call) → Valid limit s → Valid limit (call limit s c .state)

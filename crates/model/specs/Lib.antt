@@ -4,6 +4,7 @@ pub mod Config
 pub mod Values
 pub mod Frame
 pub mod State
+pub mod Queue
 pub mod Reply
 pub mod Service
 pub mod Service3E

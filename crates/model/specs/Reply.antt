@@ -1,57 +1,47 @@
--- Replies: what a service may say, and how that is queued.
-use Prim.Native.Nat.{ℕ, _+_, suc}
-use mathlib.Core.Bool.{Bool, false}
-use mathlib.Core.List.{List, [], _∷_, _++_}
+-- Replies: an error byte as a reply, and what the queue does with a reply taken into the state.
+use Prim.Native.Nat.{ℕ, _+_}
+use mathlib.Core.List.{List}
 use mathlib.Core.Option.{some}
-use lib.ListN.{length}
-use lib.Dec.{eqb, leb, ltb}
-use Rattle.model.specs.Tests.{pick, memb}
-use Rattle.model.specs.Numbers.{Moment, maxOutbox}
+use lib.Dec.{eqb}
+use Rattle.model.specs.Tests.{pick}
+use Rattle.model.specs.Numbers.{Moment}
 use Rattle.model.specs.Config.{findSession, p2ExtOf}
-use Rattle.model.specs.Frame.{positiveFrame, negativeFrame}
-use Rattle.model.specs.State.{AddressMode, physical, functional, State, Step, step, withQueue, withPending}
-
--- nothing; a positive payload; a negative code; one that is sent however the request was addressed; or the request becomes pending
-pub data Reply : Type 0 where
-  silent : Reply
-  positive : List ℕ → Reply
-  negative : ℕ → Reply
-  always : ℕ → Reply
-  pends : Reply
+use Rattle.model.specs.State.{State, Step, step, withQueue, withPending}
+use Rattle.model.specs.Queue as Queue
+use Rattle.model.specs.Queue.{QueueStep, Reply, silent, positive, negative, always, pends, pushed, pended, answered}
 
 -- an error byte is sent as the negative code; 0x78 makes the request pending
 unfoldable pub refusal : ℕ → Reply
 refusal code = pick (eqb code 0x78) pends (negative code)
 
--- a frame is queued, or 3 where 16 are held: the queue is then unchanged, and earlier changes stay
+-- a step of the queue taken into the state: where its result is 3 the queue is unchanged, and earlier changes stay
+abbrev pub taken : State → QueueStep → Step
+taken s p = step (p .result) (withQueue s (p .queue))
+
+-- a frame queued
 unfoldable pub queued : State → ℕ → List ℕ → Step
-queued s to bytes = pick (ltb (length (s .queue)) maxOutbox) (step 0 (withQueue s (s .queue ++ (record { dst = to; bytes = bytes } ∷ [])))) (step 3 s)
+queued s to bytes = taken s (pushed (s .queue) to bytes)
 
--- the codes that are withheld after a functional request
-abbrev pub functionallySuppressed : List ℕ
-functionallySuppressed = 0x11 ∷ 0x12 ∷ 0x31 ∷ 0x7E ∷ 0x7F ∷ []
-
-unfoldable pub withheld : AddressMode → ℕ → Bool
-withheld physical code = false
-withheld functional code = memb code functionallySuppressed
-
--- a negative frame with one of them after a functional request is dropped, result 0
-unfoldable pub refused : State → ℕ → ℕ → ℕ → Step
-refused s to sid code = pick (withheld (s .mode) code) (step 0 s) (queued s to (negativeFrame sid code))
-
--- a positive frame above the limit in all becomes 0x14
+-- a positive frame, or 0x14
 unfoldable pub confirmed : ℕ → State → ℕ → ℕ → List ℕ → Step
-confirmed limit s to sid p = pick (leb (suc (length p)) limit) (queued s to (positiveFrame sid p)) (refused s to sid 0x14)
+confirmed limit s to sid p = taken s (Queue.confirmed limit (s .mode) (s .queue) to sid p)
 
--- the request becomes pending, its deadline now plus P2* of the session; then 0x78 is queued, however the request was addressed
+-- the request becomes pending, its deadline now plus P2* of the session
+abbrev pub awaiting : State → ℕ → ℕ → Moment → State
+awaiting s to sid now = withPending s (some (record { dst = to; sid = sid; deadline = now + p2ExtOf (findSession (s .config) (s .session .sessionType)) }))
+
+-- and then 0x78 is queued
 unfoldable pub begun : State → ℕ → ℕ → Moment → Step
-begun s to sid now =
-    queued (withPending s (some (record { dst = to; sid = sid; deadline = now + p2ExtOf (findSession (s .config) (s .session .sessionType)) }))) to (negativeFrame sid 0x78)
+begun s to sid now = taken (awaiting s to sid now) (pended (s .queue) to sid)
+
+-- the state in which a reply is queued: a request that becomes pending is so before 0x78
+abbrev pub readied : State → ℕ → ℕ → Moment → Reply → State
+readied s to sid now silent = s
+readied s to sid now (positive p) = s
+readied s to sid now (negative code) = s
+readied s to sid now (always code) = s
+readied s to sid now pends = awaiting s to sid now
 
 -- a reply, to whom, for which service, when
 unfoldable pub replied : ℕ → State → ℕ → ℕ → Moment → Reply → Step
-replied limit s to sid now silent = step 0 s
-replied limit s to sid now (positive p) = confirmed limit s to sid p
-replied limit s to sid now (negative code) = refused s to sid code
-replied limit s to sid now (always code) = queued s to (negativeFrame sid code)
-replied limit s to sid now pends = begun s to sid now
+replied limit s to sid now r = taken (readied s to sid now r) (answered limit (s .mode) (s .queue) to sid r)

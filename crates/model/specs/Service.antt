@@ -8,7 +8,8 @@ use Rattle.model.specs.Numbers.{Moment}
 use Rattle.model.specs.Config.{Config}
 use Rattle.model.specs.Values.{Outcome, bytes, error, Given, Table}
 use Rattle.model.specs.State.{Session, Security, Subscription, State, Step, step, withRecords}
-use Rattle.model.specs.Reply.{Reply, negative, refusal, replied}
+use Rattle.model.specs.Queue.{Reply, negative}
+use Rattle.model.specs.Reply.{refusal, replied}
 
 -- what a service sees: the frame limit, the configuration, the three records that it may change, and the request
 pub record Seen : Type 0 where

@@ -9,7 +9,7 @@ use Rattle.model.specs.Tests.{pick}
 use Rattle.model.specs.Config.{SessionConfig, findSession, p2Of, p2ExtOf}
 use Rattle.model.specs.Frame.{suppressed, subFunction, twoBytes}
 use Rattle.model.specs.State.{opened, cleared}
-use Rattle.model.specs.Reply.{Reply, silent, positive}
+use Rattle.model.specs.Queue.{Reply, silent, positive}
 use Rattle.model.specs.Service.{Seen, Effect, Served, answers, refuses}
 
 -- the session, P2, and a tenth of P2*, each as its low 16 bits, high byte first

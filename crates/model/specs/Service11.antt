@@ -7,7 +7,8 @@ use Rattle.model.specs.Tests.{pick}
 use Rattle.model.specs.Values.{Outcome, bytes, error, outcome}
 use Rattle.model.specs.Frame.{suppressed, subFunction}
 use Rattle.model.specs.State.{opened, cleared}
-use Rattle.model.specs.Reply.{silent, positive, refusal}
+use Rattle.model.specs.Queue.{silent, positive}
+use Rattle.model.specs.Reply.{refusal}
 use Rattle.model.specs.Service.{Seen, Effect, Served, says, refuses, asks, part}
 
 -- session 1, no level held, the seed cleared: once the type is echoed, or suppressed. Where the echo finds no room, all three stay

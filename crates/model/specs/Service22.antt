@@ -8,7 +8,8 @@ use lib.Dec.{eqb, leb}
 use Rattle.model.specs.Tests.{pick}
 use Rattle.model.specs.Config.{DidConfig, findDid, readable, levelOf}
 use Rattle.model.specs.Values.{Outcome, bytes, error, value}
-use Rattle.model.specs.Reply.{Reply, positive, negative, refusal}
+use Rattle.model.specs.Queue.{Reply, positive, negative}
+use Rattle.model.specs.Reply.{refusal}
 use Rattle.model.specs.Service.{Seen, Served, says, answers, refuses}
 
 -- the bytes of a reply so far, or the reply that ends it

@@ -1,7 +1,7 @@
 -- 27 securityAccess: an odd access type asks a seed for its level, the even one after it sends that level's key.
 -- The access type is the low seven bits: the suppress bit is ignored here.
 use Prim.Native.Nat.{ℕ, _+_, _-_, _%_, min}
-use mathlib.Core.Bool.{Bool, true, false, not, _&&_}
+use mathlib.Core.Bool.{Bool, true, false, _&&_}
 use mathlib.Core.List.{List, [], _∷_}
 use mathlib.Core.Option.{Option, some, none}
 use lib.ListN.{length}
@@ -12,7 +12,7 @@ use Rattle.model.specs.Config.{SecurityLevelConfig, findLevel, maxAttemp
 use Rattle.model.specs.Values.{Outcome, bytes, error, outcome}
 use Rattle.model.specs.Frame.{subFunction}
 use Rattle.model.specs.State.{Failed, Lock, Security, unlocked, cleared}
-use Rattle.model.specs.Reply.{positive, negative}
+use Rattle.model.specs.Queue.{positive, negative}
 use Rattle.model.specs.Service.{Seen, Effect, Served, says, secures, refuses, asks, part}
 
 abbrev pub isFailed : ℕ → Failed → Bool

@@ -6,7 +6,7 @@ use lib.Dec.{leb}
 use Rattle.model.specs.Tests.{pick}
 use Rattle.model.specs.Values.{outcome}
 use Rattle.model.specs.Frame.{suppressed, subFunction}
-use Rattle.model.specs.Reply.{Reply, silent, positive}
+use Rattle.model.specs.Queue.{Reply, silent, positive}
 use Rattle.model.specs.Service.{Seen, Served, refuses, asks, acted, part}
 
 -- the sub-function

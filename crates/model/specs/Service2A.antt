@@ -10,7 +10,7 @@ use Rattle.model.specs.Numbers.{Moment, Span, maxPeriodic}
 use Rattle.model.specs.Config.{findDid, readable, minIntervalOf}
 use Rattle.model.specs.Frame.{periodicDid}
 use Rattle.model.specs.State.{Subscription}
-use Rattle.model.specs.Reply.{positive, negative, always}
+use Rattle.model.specs.Queue.{positive, negative, always}
 use Rattle.model.specs.Service.{Seen, Effect, Served, schedules, answers, refuses}
 
 abbrev pub slow : Span

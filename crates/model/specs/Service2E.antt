@@ -8,7 +8,7 @@ use Rattle.model.specs.Tests.{pick}
 use Rattle.model.specs.Config.{DidConfig, findDid, writable}
 use Rattle.model.specs.Values.{outcome}
 use Rattle.model.specs.Frame.{word}
-use Rattle.model.specs.Reply.{Reply, positive}
+use Rattle.model.specs.Queue.{Reply, positive}
 use Rattle.model.specs.Service.{Seen, Served, refuses, asks, acted, part}
 use Rattle.model.specs.Service22.{heldFor}
 

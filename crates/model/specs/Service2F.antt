@@ -5,7 +5,7 @@ use lib.ListN.{length, take}
 use lib.Dec.{leb}
 use Rattle.model.specs.Tests.{pick}
 use Rattle.model.specs.Values.{outcome}
-use Rattle.model.specs.Reply.{Reply, positive}
+use Rattle.model.specs.Queue.{Reply, positive}
 use Rattle.model.specs.Service.{Seen, Served, refuses, asks, acted, part}
 
 -- the identifier, the bytes

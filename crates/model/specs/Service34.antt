@@ -9,7 +9,7 @@ use Rattle.model.specs.Tests.{pick}
 use Rattle.model.specs.Numbers.{maxDownload}
 use Rattle.model.specs.Values.{outcome}
 use Rattle.model.specs.Frame.{highNibble, lowNibble}
-use Rattle.model.specs.Reply.{positive}
+use Rattle.model.specs.Queue.{positive}
 use Rattle.model.specs.Service.{Seen, Served, refuses, asks, acted, part}
 
 abbrev pub addressLength : List ℕ → ℕ

@@ -2,7 +2,7 @@
 use mathlib.Core.List.{[], _∷_}
 use lib.ListN.{length}
 use Rattle.model.specs.Values.{outcome}
-use Rattle.model.specs.Reply.{positive}
+use Rattle.model.specs.Queue.{positive}
 use Rattle.model.specs.Service.{Seen, Served, asks, acted, part}
 
 unfoldable pub service37 : Seen → Served

@@ -7,7 +7,7 @@ use lib.Dec.{leb}
 use Rattle.model.specs.Tests.{pick}
 use Rattle.model.specs.Values.{outcome}
 use Rattle.model.specs.Frame.{word}
-use Rattle.model.specs.Reply.{positive}
+use Rattle.model.specs.Queue.{positive}
 use Rattle.model.specs.Service.{Seen, Served, refuses, asks, acted, part}
 
 abbrev pub pathLength : List ℕ → ℕ

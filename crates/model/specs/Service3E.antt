@@ -2,7 +2,7 @@
 use mathlib.Core.List.{[], _∷_}
 use Rattle.model.specs.Tests.{pick}
 use Rattle.model.specs.Frame.{suppressed, subFunction}
-use Rattle.model.specs.Reply.{silent, positive}
+use Rattle.model.specs.Queue.{silent, positive}
 use Rattle.model.specs.Service.{Seen, Served, says, answers}
 
 unfoldable pub service3E : Seen → Served

@@ -1,16 +1,16 @@
 -- Tick: S3, pending, periodic.
-use Prim.Native.Nat.{ℕ, suc, _+_, _-_, _%_}
+use Prim.Native.Nat.{ℕ, _+_, _-_, _%_}
 use mathlib.Core.Bool.{Bool, not, _&&_}
 use mathlib.Core.List.{List, [], _∷_, _++_}
 use mathlib.Core.Option.{Option, some, none}
-use lib.ListN.{length}
 use lib.Dec.{eqb, leb, ltb}
 use Rattle.model.specs.Tests.{pick}
-use Rattle.model.specs.Numbers.{Moment, maxOutbox, maxTime}
+use Rattle.model.specs.Numbers.{Moment, maxTime}
 use Rattle.model.specs.Config.{findSession, s3Of}
 use Rattle.model.specs.Values.{Outcome, bytes, error, Table, value}
 use Rattle.model.specs.Frame.{Frame}
 use Rattle.model.specs.State.{Subscription, PendingRequest, State, Step, step, valid, withRecords, opened, cleared}
+use Rattle.model.specs.Queue.{QueueStep, sent}
 use Rattle.model.specs.Reply.{begun}
 
 -- S3: the session is not 1 and now minus last_rx is above s3 (a clock that went back is not above)
@@ -45,19 +45,18 @@ stopped a e n err = record { result = n; err = err; entries = a .entries ++ (e �
 abbrev pub advanced : Moment → Subscription → Subscription
 advanced now e = record { identifier = e .identifier; client = e .client; interval = e .interval; next = now + e .interval }
 
-abbrev pub sent : Passed → Moment → Subscription → List ℕ → Passed
-sent a now e b = record {
-  result = a .result;
-  err = a .err;
-  entries = a .entries ++ (advanced now e ∷ []);
-  queue = a .queue ++ (record { dst = e .client; bytes = e .identifier % 256 ∷ b } ∷ []);
-}
+-- an entry whose frame was queued: it is advanced
+abbrev pub went : Passed → Moment → Subscription → List Frame → Passed
+went a now e q = record { result = a .result; err = a .err; entries = a .entries ++ (advanced now e ∷ []); queue = q }
 
--- 8 where the value is an error, 4 where identifier byte and value exceed the limit, 3 where 16 frames are held, in that order;
--- else the identifier's low byte and the value, to its client
+-- a due entry goes on by what became of its frame: sent, or met by the frame's result
+unfoldable pub passed : Moment → Passed → Subscription → QueueStep → Passed
+passed now a e p = pick (eqb (p .result) 0) (went a now e (p .queue)) (stopped a e (p .result) 0)
+
+-- 8 where the value is an error; else the identifier's low byte and the value are a frame to its client
 unfoldable pub dueSent : ℕ → Moment → Passed → Subscription → Outcome → Passed
 dueSent limit now a e (error code) = stopped a e 8 code
-dueSent limit now a e (bytes b) = pick (leb (suc (length b)) limit) (pick (ltb (length (a .queue)) maxOutbox) (sent a now e b) (stopped a e 3 0)) (stopped a e 4 0)
+dueSent limit now a e (bytes b) = passed now a e (sent limit (a .queue) (e .client) (e .identifier % 256 ∷ b))
 
 -- an entry is due at now >= next; after a result other than 0 the later ones stand
 unfoldable pub passOne : ℕ → Moment → Table → Passed → Subscription → Passed

@@ -8,8 +8,7 @@ use borrow.Author.Tests.{le-leb, lt-leb}
 use Rattle.model.specs.Numbers.{maxFrame}
 use Rattle.model.specs.Frame.{Frame, positiveFrame, negativeFrame}
 use Rattle.model.specs.State.{AddressMode, physical}
-use Rattle.model.specs.Reply.{withheld}
-use Rattle.queue.specs.Model.{leaves, pushed, refused, confirmed, sent}
+use Rattle.model.specs.Queue.{withheld, leaves, pushed, refused, confirmed, sent}
 use Rattle.queue.specs.View.{queueOf, stepOf, Pushes}
 use Rattle.queue.specs.declared.reply.Pushed.{Pushed}
 use Rattle.queue.proofs.Room.{Stands}

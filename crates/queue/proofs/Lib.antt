@@ -1,4 +1,3 @@
-pub mod Emptied
 pub mod Laws
 pub mod Over
 pub mod Records

@@ -13,11 +13,10 @@ use Rattle.model.specs.Numbers.{maxFrame, maxOutbox}
 use Rattle.model.specs.Config.{tableWithin}
 use Rattle.model.specs.Frame.{Frame}
 use Rattle.model.specs.State.{frameValid}
-use Rattle.model.specs.Drain.{u16, u32, record1, records}
+use Rattle.model.specs.Queue.{u16, u32, record1, records, drained, unmoved, written}
 use Rattle.uds.specs.Table.{tab}
 use Rattle.uds.proofs.Tab.{tab-cons, tab-end, tab-length}
 use Rattle.queue.specs.Over.{over}
-use Rattle.queue.specs.Model.{drained, unmoved, written}
 use Rattle.queue.specs.View.{roomSize, Framed, headAt, frameAt, queueOf}
 use Rattle.queue.proofs.Over.{over-nothing, over-over}
 use Rattle.queue.proofs.Room.{bytes-length, plain}

@@ -13,7 +13,7 @@ use Rattle.model.specs.Service22.{going}
 use Rattle.uds.proofs.Tab.{tab-same, tab-snoc, tab-length}
 use Rattle.queue.specs.declared.draft.Drafted.the-variants.{Going, TooLong}
 use Rattle.queue.specs.Over.{over}
-use Rattle.queue.specs.Model.{leaves, pushed}
+use Rattle.model.specs.Queue.{leaves, pushed}
 use Rattle.queue.specs.View.{roomSize, headsSize, headAt, bytesAt, frameAt, queueOf, placeOf, draftOf, Unseen, Drafts}
 use Rattle.queue.proofs.Over.{part, over-length, over-below, over-from, over-above}
 

@@ -9,7 +9,7 @@ use Rattle.model.specs.Config.{tableWithin}
 use Rattle.model.specs.State.{frameValid}
 use Rattle.model.specs.Service22.{readReply}
 use Rattle.uds.proofs.Tab.{tab-length}
-use Rattle.queue.specs.Model.{QueueStep, QueueDrain}
+use Rattle.model.specs.Queue.{QueueStep, QueueDrain}
 use Rattle.queue.specs.View.{roomSize, frameAt, queueOf, draftOf, stepOf, replyOf, readingOf, drainOf, Drafts}
 use Rattle.queue.specs.declared.draft.Drafted.{Drafted}
 use Rattle.queue.specs.declared.draft.Drafted.the-variants.{Going, TooLong}

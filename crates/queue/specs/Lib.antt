@@ -1,3 +1,2 @@
-pub mod Model
 pub mod Over
 pub mod View

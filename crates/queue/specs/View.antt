@@ -8,10 +8,10 @@ use Rattle.model.specs.Tests.{pick}
 use Rattle.model.specs.Numbers.{maxFrame, maxOutbox}
 use Rattle.model.specs.Frame.{Frame}
 use Rattle.model.specs.State.{AddressMode, physical, functional}
-use Rattle.model.specs.Reply as Definition
+use Rattle.model.specs.Queue as Definition
+use Rattle.model.specs.Queue.{QueueStep, QueueDrain, pushed}
 use Rattle.model.specs.Service22.{Reading, going, ended, appended}
 use Rattle.uds.specs.Table.{tab}
-use Rattle.queue.specs.Model.{QueueStep, QueueDrain, pushed}
 use Rattle.queue.specs.declared.draft.Drafted.{Drafted}
 use Rattle.queue.specs.declared.draft.Drafted.the-variants.{Going, TooLong}
 use Rattle.queue.specs.declared.drain.Drained.{Drained}

@@ -7,12 +7,12 @@ ghost use lib.ListN.{length};
 ghost use Rattle.model.specs.Numbers.{maxFrame, maxOutbox};
 ghost use Rattle.model.specs.Config.{tableWithin};
 ghost use Rattle.model.specs.State.{frameValid};
-ghost use Rattle.model.specs.Drain.{u16, u32, record1, records};
+ghost use Rattle.model.specs.Queue.{u16, u32, record1, records, drained};
 ghost use Rattle.queue.specs.Over.{over};
-ghost use Rattle.queue.specs.Model.{drained};
 ghost use Rattle.queue.specs.View.{roomSize, Framed, headAt, queueOf, drainOf};
 use super::Heads;
 use super::Room;
+use uds::result;
 
 // The result, how many frames were written, and how many wait then.
 #[repr(C)]
@@ -135,7 +135,7 @@ pub fn drain(count: u8, heads: &Heads, room: &Room, out: &mut [u8]) -> Drained
     super::size(room);
     if !heads_valid(count, heads) {
         return Drained {
-            result: 10,
+            result: result::STATE_NOT_VALID,
             frames: 0,
             count,
         };
@@ -143,14 +143,14 @@ pub fn drain(count: u8, heads: &Heads, room: &Room, out: &mut [u8]) -> Drained
     let n = count as usize;
     if out.len() < records_length(n, heads) {
         return Drained {
-            result: 5,
+            result: result::BUFFER_TOO_SHORT,
             frames: 0,
             count,
         };
     }
     write_records(n, heads, room, out);
     Drained {
-        result: 0,
+        result: result::DONE,
         frames: count,
         count: 0,
     }

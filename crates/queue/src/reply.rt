@@ -4,11 +4,12 @@ ghost use Prim.Native.Nat.{_≤_};
 ghost use mathlib.Core.List.{_∷_};
 ghost use Rattle.model.specs.Frame.{negativeFrame};
 ghost use Rattle.model.specs.Numbers.{maxFrame};
-ghost use Rattle.queue.specs.Model.{pushed, refused, confirmed, answered, sent};
+ghost use Rattle.model.specs.Queue.{pushed, refused, confirmed, answered, sent};
 ghost use Rattle.queue.specs.View.{queueOf, draftOf, modeOf, replyOf, stepOf, Pushes};
 use super::Heads;
 use super::Room;
 use uds::nrc::Nrc;
+use uds::result;
 
 // What a service says. A positive payload stands in the free place, and is told by its length.
 pub enum Reply {
@@ -32,14 +33,17 @@ fn push(count: u8, heads: &mut Heads, to: u32, len: usize) -> Pushed
     ensures { λ r. ⌜ Pushes count to len (now (heads .entry)) r (now (heads .exit)) ⌝ }
 {
     if super::OUTBOX <= count {
-        return Pushed { result: 3, count };
+        return Pushed {
+            result: result::QUEUE_FULL,
+            count,
+        };
     }
     super::words(heads);
     let at = 2 * (count as usize);
     heads[at] = to;
     heads[at + 1] = len as u32;
     Pushed {
-        result: 0,
+        result: result::DONE,
         count: count + 1,
     }
 }
@@ -67,7 +71,10 @@ pub fn refuse(
 {
     if functional {
         if Nrc(code).withheld() {
-            return Pushed { result: 0, count };
+            return Pushed {
+                result: result::DONE,
+                count,
+            };
         }
     }
     negative(count, heads, room, to, sid, code)
@@ -79,7 +86,10 @@ pub fn send(count: u8, heads: &mut Heads, room: &mut Room, to: u32, first: u8, l
 {
     super::size(room);
     if super::MAX_FRAME <= len {
-        return Pushed { result: 4, count };
+        return Pushed {
+            result: result::FRAME_TOO_LONG,
+            count,
+        };
     }
     let at = super::place(count);
     super::write(room, at, &[first]);
@@ -126,7 +136,10 @@ pub fn answer(
     ensures { λ r. ⌜ stepOf r (now (heads .exit)) (now (room .exit)) ≡ answered maxFrame (modeOf functional) (queueOf count (now (heads .entry)) (now (room .entry))) to sid (replyOf reply count (now (room .entry))) ⌝ }
 {
     match reply {
-        Reply::Silent => Pushed { result: 0, count },
+        Reply::Silent => Pushed {
+            result: result::DONE,
+            count,
+        },
         Reply::Positive(len) => confirm(count, heads, room, functional, to, sid, len),
         Reply::Negative(code) => refuse(count, heads, room, functional, to, sid, code),
         Reply::Always(code) => negative(count, heads, room, to, sid, code),

@@ -6,9 +6,9 @@ use Rattle.model.specs.Numbers.{maxFrame}
 use Rattle.model.specs.Config.{emptyConfig}
 use Rattle.model.specs.Frame.{Frame}
 use Rattle.model.specs.State.{AddressMode, State, Step, freshState, received, withQueue}
-use Rattle.model.specs.Reply as Definition
+use Rattle.model.specs.Queue as Definition
 use Rattle.model.specs.Service22.{appended, readReply}
-use Rattle.queue.specs.Model.{QueueStep, answered, confirmed}
+use Rattle.model.specs.Queue.{QueueStep, answered, confirmed}
 use Rattle.queue.specs.View.{queueOf, readingOf, Drafts}
 use Rattle.queue.specs.declared.draft.Drafted.{Drafted}
 use Rattle.queue.proofs.Replied.{replied-answered, made-too-long}

@@ -2,7 +2,7 @@
 // first byte and its length.
 ghost use mathlib.Core.Path.{_≡_};
 ghost use Rattle.model.specs.Numbers.{maxFrame};
-ghost use Rattle.queue.specs.Model.{refused, confirmed, drained};
+ghost use Rattle.model.specs.Queue.{refused, confirmed, drained};
 ghost use Rattle.queue.specs.View.{queueOf, modeOf, stepOf, drainOf};
 use queue::Heads;
 use queue::Room;

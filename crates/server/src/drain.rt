@@ -1,14 +1,18 @@
-// Drain: the waiting frames as records in a lent buffer, of a state that is lent and of a server by value.
+// Drain: the waiting frames as records in a lent buffer, by both doors.
 ghost use mathlib.Core.Path.{_≡_};
 ghost use Rattle.model.specs.Numbers.{maxFrame};
 ghost use Rattle.model.specs.Drain as Model;
-ghost use Rattle.server.specs.View.{stateOf, serverOf, drainOf, drainedOf};
+ghost use Rattle.state.specs.View.{stateOf};
+ghost use Rattle.server.specs.View.{serverOf, drainOf, drainedOf};
 use super::fresh::Server;
-use super::state::State;
 use config::Config;
 use periodic::Subscriptions;
 use queue::Heads;
 use queue::Room;
+use security::Security;
+use state::State;
+use state::valid::is_valid;
+use uds::result::STATE_NOT_VALID;
 
 // The state that is left, the result, and how many frames were written.
 #[repr(C)]
@@ -29,17 +33,18 @@ pub struct ServerDrained {
 pub fn drain<'a>(
     config: &'a Config,
     s: State,
+    k: &'a Security,
     subs: &'a Subscriptions,
     heads: &'a Heads,
     room: &'a Room,
     out: &mut [u8],
 ) -> Drained
-    ensures { λ r. ⌜ drainOf (now (config .entry)) r (now (subs .entry)) (now (heads .entry)) (now (room .entry)) (now (out .exit)) ≡ Model.drain maxFrame (stateOf (now (config .entry)) s (now (subs .entry)) (now (heads .entry)) (now (room .entry))) (now (out .entry)) ⌝ }
+    ensures { λ r. ⌜ drainOf (now (config .entry)) r (now (k .entry)) (now (subs .entry)) (now (heads .entry)) (now (room .entry)) (now (out .exit)) ≡ Model.drain maxFrame (stateOf (now (config .entry)) s (now (k .entry)) (now (subs .entry)) (now (heads .entry)) (now (room .entry))) (now (out .entry)) ⌝ }
 {
-    if !super::valid::is_valid(config, s, subs, heads, room) {
+    if !is_valid(config, s, k, subs, heads, room) {
         return Drained {
             state: s,
-            result: 10,
+            result: STATE_NOT_VALID,
             frames: 0,
         };
     }
@@ -60,6 +65,7 @@ impl Server {
         let d = drain(
             &self.config,
             self.state,
+            &self.security,
             &self.subscriptions,
             &self.heads,
             &self.room,

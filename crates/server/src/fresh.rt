@@ -3,15 +3,20 @@ ghost use mathlib.Core.Path.{_≡_};
 ghost use Rattle.config.specs.View.{configOf};
 ghost use Rattle.model.specs.State as Model;
 ghost use Rattle.server.specs.View.{serverOf, freshOf};
-use super::state::State;
 use config::Config;
 use periodic::Subscriptions;
 use queue::Heads;
 use queue::Room;
+use security::Security;
+use security::SecurityState;
+use state::State;
+use uds::result::CONFIGURATION;
+use uds::result::DONE;
 
 #[repr(C)]
 pub struct Server {
     pub config: Config,
+    pub security: Security,
     pub subscriptions: Subscriptions,
     pub state: State,
     pub heads: Heads,
@@ -28,8 +33,11 @@ pub struct Fresh {
 fn empty_handed(config: Config) -> Server
     ensures { λ r. ⌜ serverOf r ≡ Model.freshState (configOf config) ⌝ }
 {
+    let fresh = SecurityState::new();
+    let security = fresh.words;
     Server {
         config,
+        security,
         subscriptions: [0; 64],
         state: State::new(),
         heads: [0; 32],
@@ -45,12 +53,12 @@ impl Server {
         if config::within(&config) {
             return Fresh {
                 server: empty_handed(config),
-                result: 0,
+                result: DONE,
             };
         }
         Fresh {
             server: empty_handed(config::build::new(0, 0)),
-            result: 7,
+            result: CONFIGURATION,
         }
     }
 }

@@ -1,7 +1,4 @@
-// The server: what it holds, and its calls.
-pub mod apply;
+// The server: its calls, by two doors. By the first the state goes by value and all else is lent; by the second the server goes by value, and lends
+// its own arrays to the first.
 pub mod drain;
 pub mod fresh;
-pub mod security;
-pub mod state;
-pub mod valid;

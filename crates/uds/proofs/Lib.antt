@@ -5,5 +5,6 @@ pub mod Tab
 pub mod Tables
 pub mod Readings
 pub mod Paste
+pub mod Held
 pub mod Times
 pub mod Settled

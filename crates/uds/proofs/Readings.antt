@@ -11,35 +11,37 @@ use Rattle.uds.specs.declared.values.Outcome.the-variants.{Bytes, Error}
 use Rattle.uds.specs.Values.{Says}
 
 module _ (pool : List ℕ) (limit : ℕ) where
-  pub missing : Says pool limit (rowValue limit pool none) (Error 0x22)
+  pub missing : Says pool limit none (Error 0x22)
   unfolding rowValue
-  missing = record { says = refl; inside = omega arith; short = omega arith }
+  missing = record { says = refl; stands = refl; inside = omega arith; short = omega arith }
 
   module _ (r : ValueRow) where
-    pub outside : length pool < r .start + r .len → Says pool limit (rowValue limit pool (some r)) (Error 0x22)
+    pub outside : length pool < r .start + r .len → Says pool limit (some r) (Error 0x22)
     unfolding rowValue
-    outside p = record { says = rw (lt-leb (r .start + r .len) (length pool) p); inside = omega arith; short = omega arith }
+    outside p = record { says = rw (lt-leb (r .start + r .len) (length pool) p); stands = refl; inside = omega arith; short = omega arith }
 
     module _ (p : r .start + r .len ≤ length pool) where
-      pub long : limit < r .len → Says pool limit (rowValue limit pool (some r)) (Error 0x22)
+      pub long : limit < r .len → Says pool limit (some r) (Error 0x22)
       unfolding rowValue
-      long q = record { says = rw (le-leb (r .start + r .len) (length pool) p, lt-leb (r .len) limit q); inside = omega arith; short = omega arith }
+      long q = record { says = rw (le-leb (r .start + r .len) (length pool) p, lt-leb (r .len) limit q); stands = refl; inside = omega arith; short = omega arith }
 
       module _ (q : r .len ≤ limit) where
-        pub fails : (r .err ≡ 0 → ⊥) → Says pool limit (rowValue limit pool (some r)) (Error (r .err))
+        pub fails : (r .err ≡ 0 → ⊥) → Says pool limit (some r) (Error (r .err))
         unfolding rowValue
         fails e =
             record {
               says = rw (le-leb (r .start + r .len) (length pool) p, le-leb (r .len) limit q, ne-eqb (r .err) 0 e);
+              stands = refl;
               inside = omega arith;
               short = omega arith;
             }
 
-        pub succeeds : r .err ≡ 0 → Says pool limit (rowValue limit pool (some r)) (Bytes (r .start) (r .len))
+        pub succeeds : r .err ≡ 0 → Says pool limit (some r) (Bytes (r .start) (r .len))
         unfolding rowValue
         succeeds e =
             record {
               says = rw (le-leb (r .start + r .len) (length pool) p, le-leb (r .len) limit q, eq-eqb (r .err) 0 e);
+              stands = refl;
               inside = p;
               short = q;
             }

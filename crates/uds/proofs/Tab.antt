@@ -2,18 +2,18 @@
 use Prim.Native.Nat.{ℕ, zero, suc, _+_, _-_, _*_, _/_, _≤_, _<_, min}
 use mathlib.Core.Path.{_≡_, refl, ap, ap₂, _∙_, sym}
 use mathlib.Core.Option.{Option, some, none, Option·map}
-use mathlib.Core.Bool.{Bool, true, false, _&&_}
+use mathlib.Core.Bool.{Bool, true, false}
 use mathlib.Core.List.{List, [], _∷_, _++_}
 use native.Mathlib.Omega.{arith}
 use native.Mathlib.Numerals.{add-one}
-use native.Mathlib.Nat.{add-mul, one-mul, div-lt-iff-lt-mul, lt-of-not-le}
+use native.Mathlib.Nat.{add-mul, one-mul, mul-zero, mul-le-mul-right, div-lt-iff-lt-mul, lt-of-not-le}
 use native.Mathlib.Decide.{decLe}
 use lib.ListN.{length, getD, List·getD-eq-default}
 use lib.Dec.{eqb}
 use Rattle.model.specs.Tests.{pick, memb, place, first, examined, all}
 use Rattle.uds.specs.declared.table.Found.{Found}
 use Rattle.uds.specs.declared.table.Found.the-variants.{At, Nothing}
-use Rattle.uds.specs.Table.{tab, column, isKey, placeOf, rowOf, examinedOf, Finds}
+use Rattle.uds.specs.Table.{tab, column, isKey, placeOf, rowOf, examinedOf, Finds, InWords}
 
 module _ {B : Type 0} (f : ℕ → B) (m i : ℕ) where
   pub tab-cons : i < m → tab f i (m - i) ≡ f i ∷ tab f (i + 1) (m - (i + 1))
@@ -106,15 +106,19 @@ outside n step i p h = div-lt-iff-lt-mul p .0 h
 pub inside : (n step i : ℕ) → 0 < step → i ≤ n / step → i * step ≤ n
 inside n step i p h = elim (decLe (i * step) n) [ yes l ↦ l | no l ↦ absurd (let k : n / step < i = div-lt-iff-lt-mul p .1 (lt-of-not-le l) in omega arith) ]
 
--- the word that a walk reads, at a place that stops at the end, is the row's
-clamped : (w : List ℕ) (x : ℕ) → getD w (min x (length w)) 0 ≡ getD w x 0
-clamped w x = elim (decLe (length w) x) [
-  | yes p ↦ (let e : min x (length w) ≡ length w = omega arith in rw e (List·getD-eq-default w 0 (omega arith) ∙ sym (List·getD-eq-default w 0 p)))
-  | no p ↦ (let q : x < length w = lt-of-not-le p in let e : min x (length w) ≡ x = omega arith in rw e)
-]
+-- rows that stand in the words: the next one's place is no further than the end, and this one's before it
+module _ {len from step n i : ℕ} (all-in : InWords len from step n) (h : i < n) where
+  pub next-in : from + i * step + step ≤ len
+  next-in = let m : (i + 1) * step ≤ n * step = mul-le-mul-right step (omega arith) in omega (arith, all-in .ends, next-row i step)
 
-pub read-row : (w : List ℕ) (from step i at r : ℕ) → at ≡ min (from + i * step) (length w) → r ≡ getD w at 0 → column w from step i ≡ r
-read-row w from step i at r p e = sym (e ∙ ap (λ (x : ℕ). getD w x 0) p ∙ clamped w (from + i * step))
+  pub stands-in : from + i * step < len
+  stands-in = elim (decLe step 0) [
+    | yes z ↦ (let e : i * step ≡ 0 = none (omega arith) in omega (arith, all-in .begins))
+    | no z ↦ omega (arith, lt-of-not-le z, next-in)
+  ]
+    where
+      none : step ≡ 0 → i * step ≡ 0
+      none z = rw z (mul-zero i)
 
 -- two tables whose rows pass or fail alike have their first at the same place
 pub place-same : {A B : Type 0} (p : A → Bool) (q : B → Bool) (f : ℕ → A) (g : ℕ → B) (k n : ℕ) → ((i : ℕ) → p (f i) ≡ q (g i)) → place p (tab f k n) ≡ place q (tab g k n)
@@ -203,21 +207,10 @@ empty-list x f n e = rw e
 pub there : (w : List ℕ) (i n : ℕ) → n ≡ getD w i 0 → 0 < n → i < length w
 there w i n e h = elim (decLe (length w) i) [ yes l ↦ absurd (let z : getD w i 0 ≡ 0 = List·getD-eq-default w 0 l in omega arith) | no l ↦ lt-of-not-le l ]
 
--- a test of every row is a test, or two, of every word of a column
-module _ {A B : Type 0} (p : B → Bool) (f : ℕ → B) (q : A → Bool) (g : ℕ → A) where
-  pub all-same : (k n : ℕ) → ((i : ℕ) → p (f i) ≡ q (g i)) → all p (tab f k n) ≡ all q (tab g k n)
-  all-same k zero h = refl
-  all-same k (suc n) h = rw (h k, all-same (suc k) n h)
-
-  pub all-both : {C : Type 0} (r : C → Bool) (g′ : ℕ → C) (k n : ℕ) → ((i : ℕ) → p (f i) ≡ (q (g i) && r (g′ i))) → all p (tab f k n) ≡ (all q (tab g k n) && all r (tab g′ k n))
-  all-both r g′ k zero h = refl
-  all-both r g′ k (suc n) h = rw (h k, all-both r g′ (suc k) n h) (shuffled (q (g k)) (r (g′ k)) (all q (tab g (suc k) n)) (all r (tab g′ (suc k) n)))
-    where
-      shuffled : (a b c d : Bool) → ((a && b) && (c && d)) ≡ ((a && c) && (b && d))
-      shuffled true true c d = refl
-      shuffled true false true d = refl
-      shuffled true false false d = refl
-      shuffled false b c d = refl
+-- a test of every row is a test of every word of a column
+pub all-same : {A B : Type 0} (p : B → Bool) (f : ℕ → B) (q : A → Bool) (g : ℕ → A) (k n : ℕ) → ((i : ℕ) → p (f i) ≡ q (g i)) → all p (tab f k n) ≡ all q (tab g k n)
+all-same p f q g k zero h = refl
+all-same p f q g k (suc n) h = rw (h k, all-same p f q g (suc k) n h)
 
 pub all-true : {B : Type 0} (p : B → Bool) (f : ℕ → B) (k n : ℕ) → ((i : ℕ) → p (f i) ≡ true) → all p (tab f k n) ≡ true
 all-true p f k zero h = refl

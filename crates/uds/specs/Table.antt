@@ -1,11 +1,11 @@
 -- Tables as lent words, and what a lookup answers.
-use Prim.Native.Nat.{ℕ, zero, suc, _+_, _*_, min}
+use Prim.Native.Nat.{ℕ, zero, suc, _+_, _*_, _≤_, _<_, min}
 use mathlib.Core.Path.{_≡_}
 use mathlib.Core.Bool.{Bool}
 use mathlib.Core.List.{List, [], _∷_}
 use mathlib.Core.Option.{Option, some, none}
 use lib.ListN.{getD}
-use lib.Dec.{eqb, leb}
+use lib.Dec.{eqb}
 use Rattle.model.specs.Tests.{place, first, examined}
 use Rattle.uds.specs.declared.table.Found.{Found}
 use Rattle.uds.specs.declared.table.Found.the-variants.{At, Nothing}
@@ -19,12 +19,14 @@ tab f k (suc n) = f k ∷ tab f (suc k) n
 abbrev pub column : List ℕ → ℕ → ℕ → ℕ → ℕ
 column w from step i = getD w (from + i * step) 0
 
--- the tests of a word
+-- the test of a word
 abbrev pub isKey : ℕ → ℕ → Bool
 isKey x y = eqb y x
 
-abbrev pub isAtMost : ℕ → ℕ → Bool
-isAtMost m y = leb y m
+-- n rows end in `len` words, and the first begins there
+pub record InWords (len from step n : ℕ) : Type 0 where
+  pub begins : from < len
+  pub ends : from + n * step ≤ len
 
 -- what an answer says: the number of a row, or none
 abbrev pub placeOf : Found → Option ℕ

@@ -1,6 +1,6 @@
 // The negative response codes, the rates of periodic transmission, and what serves where no row is configured.
 ghost use mathlib.Core.Path.{_≡_};
-ghost use Rattle.model.specs.Reply.{withheld};
+ghost use Rattle.model.specs.Queue.{withheld};
 ghost use Rattle.model.specs.State.{functional};
 ghost use Rattle.model.specs.Service2A.{rateOf};
 use super::clock::Duration;

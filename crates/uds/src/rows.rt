@@ -1,26 +1,25 @@
 // The rows of a configuration as records, with the Rust's presets. What each means is a row of the definition.
 ghost use mathlib.Core.Path.{_≡_};
-ghost use mathlib.Core.Bool.{true};
 ghost use mathlib.Core.List.{[]};
 ghost use lib.ListN.{length};
 ghost use lib.Dec.{leb};
 ghost use Rattle.model.specs.Numbers.{maxListed};
 ghost use Rattle.model.specs.Config as Model;
-ghost use Rattle.uds.specs.Rows.{Lists, listOf, sessionOf, serviceOf, didOf, levelOf, presetSession, ServiceIs, DidIs, atLeast, securedBy};
+ghost use Rattle.uds.specs.Rows.{heldOf, listOf, sessionOf, serviceOf, didOf, levelOf, presetSession, serviceWith, didWith, atLeast, securedBy};
 use super::clock::Duration;
+use super::frame::byte;
 use super::nrc::DEFAULT_P2;
 use super::nrc::DEFAULT_P2_EXT;
 use super::nrc::DEFAULT_S3;
 use super::nrc::Rate;
 
-// A row's list has at most eight sessions, a seed or a key at most 32 bytes, and a span is below 2^32 milliseconds.
+// A row's list has at most eight sessions, a seed or a key at most 32 bytes.
 pub const MAX_LISTED: u32 = 8;
 
 pub const MAX_SEED: u32 = 32;
 
-const MAX_SPAN: u64 = 0x1_0000_0000;
-
-// A list of sessions. It holds eight: of a longer one the count tells, and no configuration that keeps the numbers takes it.
+// A list of sessions. It holds the first eight, and 0 where there are fewer: of a longer one the count tells, and no configuration
+// that keeps the numbers takes it.
 pub struct SessionList {
     pub sessions: [u8; 8],
     pub count: usize,
@@ -28,24 +27,20 @@ pub struct SessionList {
 
 impl SessionList {
     pub fn of(sessions: &[u8]) -> SessionList
-        ensures { λ r. ⌜ Lists (now (sessions .entry)) r ⌝ }
+        ensures { λ r. ⌜ r ≡ heldOf (now (sessions .entry)) ⌝ }
     {
-        let count = sessions.len();
-        let mut held = [0u8; 8];
-        let mut i = 0;
-        while i < count {
-            if 8 <= i {
-                return SessionList {
-                    sessions: held,
-                    count,
-                };
-            }
-            held[i] = sessions[i];
-            i += 1;
-        }
         SessionList {
-            sessions: held,
-            count,
+            sessions: [
+                byte(sessions, 0),
+                byte(sessions, 1),
+                byte(sessions, 2),
+                byte(sessions, 3),
+                byte(sessions, 4),
+                byte(sessions, 5),
+                byte(sessions, 6),
+                byte(sessions, 7),
+            ],
+            count: sessions.len(),
         }
     }
 
@@ -101,15 +96,15 @@ impl SessionConfig {
         ensures { λ r. ⌜ r ≡ Model.sessionWithin (sessionOf self) ⌝ }
     {
         let p2 = self.p2_timeout;
-        if MAX_SPAN <= p2.0 {
+        if !p2.within() {
             return false;
         }
         let p2_ext = self.p2_extended_timeout;
-        if MAX_SPAN <= p2_ext.0 {
+        if !p2_ext.within() {
             return false;
         }
         let s3 = self.s3_timeout;
-        s3.0 < MAX_SPAN
+        s3.within()
     }
 }
 
@@ -122,7 +117,7 @@ pub struct ServiceConfig {
 
 impl ServiceConfig {
     pub fn new(service_id: u8, supported_in: &[u8]) -> ServiceConfig
-        ensures { λ r. ⌜ ServiceIs «service_id» (now («supported_in» .entry)) 0 r ⌝ }
+        ensures { λ r. ⌜ r ≡ serviceWith «service_id» (now («supported_in» .entry)) 0 ⌝ }
     {
         ServiceConfig {
             service_id,
@@ -132,7 +127,7 @@ impl ServiceConfig {
     }
 
     pub fn secured(service_id: u8, supported_in: &[u8], security_level: u8) -> ServiceConfig
-        ensures { λ r. ⌜ ServiceIs «service_id» (now («supported_in» .entry)) «security_level» r ⌝ }
+        ensures { λ r. ⌜ r ≡ serviceWith «service_id» (now («supported_in» .entry)) «security_level» ⌝ }
     {
         ServiceConfig {
             service_id,
@@ -161,7 +156,7 @@ pub struct DidConfig {
 
 impl DidConfig {
     pub fn read_only(identifier: u16, readable_in: &[u8]) -> DidConfig
-        ensures { λ r. ⌜ DidIs identifier (now («readable_in» .entry)) [] r ⌝ }
+        ensures { λ r. ⌜ r ≡ didWith identifier (now («readable_in» .entry)) [] ⌝ }
     {
         DidConfig {
             identifier,
@@ -174,7 +169,7 @@ impl DidConfig {
     }
 
     pub fn read_write(identifier: u16, readable_in: &[u8], writable_in: &[u8]) -> DidConfig
-        ensures { λ r. ⌜ DidIs identifier (now («readable_in» .entry)) (now («writable_in» .entry)) r ⌝ }
+        ensures { λ r. ⌜ r ≡ didWith identifier (now («readable_in» .entry)) (now («writable_in» .entry)) ⌝ }
     {
         DidConfig {
             identifier,
@@ -187,7 +182,7 @@ impl DidConfig {
     }
 
     pub fn periodic(mut self, min_interval: Duration) -> DidConfig
-        ensures { λ r. ⌜ (didOf r ≡ atLeast (didOf self) («min_interval» .0)) × (r .periodic ≡ true) ⌝ }
+        ensures { λ r. ⌜ r ≡ atLeast self «min_interval» ⌝ }
     {
         self.periodic = true;
         self.min_periodic_interval = min_interval;
@@ -195,7 +190,7 @@ impl DidConfig {
     }
 
     pub fn secured(mut self, level: u8) -> DidConfig
-        ensures { λ r. ⌜ (didOf r ≡ securedBy (didOf self) level) × (r .periodic ≡ self .periodic) ⌝ }
+        ensures { λ r. ⌜ r ≡ securedBy self level ⌝ }
     {
         self.security_level = level;
         self
@@ -213,7 +208,7 @@ impl DidConfig {
             return false;
         }
         let interval = self.min_periodic_interval;
-        interval.0 < MAX_SPAN
+        interval.within()
     }
 }
 
@@ -230,7 +225,7 @@ impl SecurityLevelConfig {
         ensures { λ r. ⌜ r ≡ Model.levelWithin (levelOf self) ⌝ }
     {
         let lockout = self.lockout_duration;
-        if MAX_SPAN <= lockout.0 {
+        if !lockout.within() {
             return false;
         }
         if (MAX_SEED as usize) < self.seed_length {

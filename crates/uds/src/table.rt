@@ -1,9 +1,12 @@
 // Tables as lent words: rows of so many words each, from a place on. One search serves every lookup and every list of sessions.
 ghost use mathlib.Core.Path.{_≡_};
-ghost use Prim.Native.Nat.{_+_, min};
-ghost use lib.ListN.{getD};
-ghost use Rattle.model.specs.Tests.{place, all};
-ghost use Rattle.uds.specs.Table.{tab, column, isKey, isAtMost, placeOf, examinedOf};
+ghost use mathlib.Core.Bool.{true};
+ghost use lib.ListN.{getD, length};
+ghost use Rattle.model.specs.Tests.{place};
+ghost use Rattle.uds.specs.Table.{tab, column, isKey, placeOf, examinedOf, InWords};
+
+// Rows and words in a row that are looked through without a test for each.
+const FEW: usize = 0x1_0000_0000;
 
 // What a lookup answers: the number of the first row that has the key, counted from 0.
 pub enum Found {
@@ -34,19 +37,6 @@ pub fn word(words: &[u32], at: usize) -> u32
     0
 }
 
-// The place a step further on: past the end of `len` words it is the end.
-fn next(at: usize, step: usize, len: usize) -> usize
-    ensures { λ r. ⌜ r ≡ min (at + step) len ⌝ }
-{
-    if len <= at {
-        return len;
-    }
-    if len - at <= step {
-        return len;
-    }
-    at + step
-}
-
 // A word of row `i`, where that of the first row stands at `from` and rows are `step` words apart. A row number may be any: past the
 // end the words are 0.
 pub fn cell(words: &[u32], from: usize, step: usize, i: usize) -> u32
@@ -64,36 +54,59 @@ pub fn cell(words: &[u32], from: usize, step: usize, i: usize) -> u32
     word(words, from + i * step)
 }
 
-// The first of `rows` rows whose word is the key.
-pub fn find(words: &[u32], from: usize, step: usize, rows: usize, key: u32) -> Found
+// The word of each of `rows` rows stands in the words. Row numbers and steps from 2^32 on are not looked at, so that the product fits.
+fn in_words(len: usize, from: usize, step: usize, rows: usize) -> bool
+    ensures { λ r. ⌜ (r ≡ true → InWords len from step rows) ⌝ }
+{
+    if len <= from {
+        return false;
+    }
+    if FEW <= rows {
+        return false;
+    }
+    if FEW <= step {
+        return false;
+    }
+    rows * step <= len - from
+}
+
+// The first of `rows` rows whose word is the key, where all stand in the words: no place is tested.
+fn walk(words: &[u32], from: usize, step: usize, rows: usize, key: u32) -> Found
+    requires { ⌜ InWords (length (now words)) from step rows ⌝ }
     ensures { λ r. ⌜ placeOf r ≡ place (isKey key) (tab (column (now (words .entry)) from step) 0 rows) ⌝ }
 {
-    let len = words.len();
-    let mut at = next(from, 0, len);
+    let mut at = from;
     let mut i: usize = 0;
     while i < rows {
-        if word(words, at) == key {
+        if words[at] == key {
             return Found::At(i);
         }
         i += 1;
-        at = next(at, step, len);
+        at += step;
     }
     Found::Nothing
 }
 
-// The word is at most `most` in each of `rows` rows.
-pub fn at_most(words: &[u32], from: usize, step: usize, rows: usize, most: u32) -> bool
-    ensures { λ r. ⌜ r ≡ all (isAtMost most) (tab (column (now (words .entry)) from step) 0 rows) ⌝ }
+// The same, wherever the rows stand.
+fn walk_past(words: &[u32], from: usize, step: usize, rows: usize, key: u32) -> Found
+    ensures { λ r. ⌜ placeOf r ≡ place (isKey key) (tab (column (now (words .entry)) from step) 0 rows) ⌝ }
 {
-    let len = words.len();
-    let mut at = next(from, 0, len);
-    let mut row: usize = 0;
-    while row < rows {
-        if most < word(words, at) {
-            return false;
+    let mut i: usize = 0;
+    while i < rows {
+        if cell(words, from, step, i) == key {
+            return Found::At(i);
         }
-        row += 1;
-        at = next(at, step, len);
+        i += 1;
     }
-    true
+    Found::Nothing
+}
+
+// The first of `rows` rows whose word is the key.
+pub fn find(words: &[u32], from: usize, step: usize, rows: usize, key: u32) -> Found
+    ensures { λ r. ⌜ placeOf r ≡ place (isKey key) (tab (column (now (words .entry)) from step) 0 rows) ⌝ }
+{
+    if in_words(words.len(), from, step, rows) {
+        return walk(words, from, step, rows, key);
+    }
+    walk_past(words, from, step, rows, key)
 }

@@ -4,7 +4,7 @@ ghost use Prim.Native.Nat.{_/_, _%_};
 ghost use lib.ListN.{length};
 ghost use Rattle.model.specs.Values as Model;
 ghost use Rattle.uds.specs.Table.{rowOf, Finds};
-ghost use Rattle.uds.specs.Values.{valueAt, tableOf, Says};
+ghost use Rattle.uds.specs.Values.{valueAt, tableOf, rowFor, Says};
 use super::nrc::Nrc;
 use super::table::Found;
 use super::table::cell;
@@ -55,7 +55,7 @@ pub fn find_value(values: &[u32], identifier: u16) -> Found
 // What a row that was found says. One that is missing, or lies outside the pool, or is longer than the limit, reads as an error,
 // whatever its error byte.
 pub fn row_value(values: &[u32], pool: &[u8], row: Found, limit: usize) -> Outcome
-    ensures { λ r. ⌜ Says (now (pool .entry)) limit (Model.rowValue limit (now (pool .entry)) (rowOf (valueAt (now (values .entry))) row)) r ⌝ }
+    ensures { λ r. ⌜ Says (now (pool .entry)) limit (rowOf (valueAt (now (values .entry))) row) r ⌝ }
 {
     let Found::At(i) = row else {
         return Outcome::Error(MISSING);
@@ -78,7 +78,7 @@ pub fn row_value(values: &[u32], pool: &[u8], row: Found, limit: usize) -> Outco
 
 // What the table says of an identifier: the first row for it counts.
 pub fn value(values: &[u32], pool: &[u8], identifier: u16, limit: usize) -> Outcome
-    ensures { λ r. ⌜ Says (now (pool .entry)) limit (Model.value limit (tableOf (now (values .entry)) (now (pool .entry))) identifier) r ⌝ }
+    ensures { λ r. ⌜ Says (now (pool .entry)) limit (rowFor (tableOf (now (values .entry)) (now (pool .entry))) identifier) r ⌝ }
 {
     row_value(values, pool, find_value(values, identifier), limit)
 }

@@ -12,15 +12,15 @@ enum-told c = search needs
 returns : tie.Need-returns
 returns c = search needs
 
-cell-requires : tie.Need-cell-requires
-cell-requires c κs = search needs
+capped-requires : tie.Need-capped-requires
+capped-requires c κs = search needs
 
 cast-result : tie.Need-cast-result
 cast-result c = search needs
 
 returns-2 : tie.Need-returns-2
-returns-2 c = rw (c .before .before .before .level .given .1) (c .cell .ensures)
+returns-2 c = rw (c .before .before .before .level .given .1) (c .capped .ensures)
 
 pub seed-length-spec : {M : Type 1} → statement M
 seed-length-spec =
-    tie.close (tie.spec enum-known-level enum-told returns cell-requires cast-result returns-2)
+    tie.close (tie.spec enum-known-level enum-told returns capped-requires cast-result returns-2)

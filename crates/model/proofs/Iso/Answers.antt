@@ -14,7 +14,8 @@ use Rattle.model.specs.Config.{ServiceConfig, findService, allowedIn, Se
 use Rattle.model.specs.Values.{Outcome, bytes, error, outcome}
 use Rattle.model.specs.Frame.{sidOf, suppressed, subFunction, periodicDid, word}
 use Rattle.model.specs.State.{AddressMode, State, Failed, Lock, Subscription, received}
-use Rattle.model.specs.Reply.{Reply, silent, positive, negative, always, pends, refusal}
+use Rattle.model.specs.Queue.{Reply, silent, positive, negative, always, pends}
+use Rattle.model.specs.Reply.{refusal}
 use Rattle.model.specs.Service.{Seen, Effect, Served, acted}
 use Rattle.model.specs.Service3E.{service3E}
 use Rattle.model.specs.Service10.{sessionControl, service10}

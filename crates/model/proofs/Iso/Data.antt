@@ -13,7 +13,7 @@ use Rattle.model.specs.Tests.{pick}
 use Rattle.model.specs.Numbers.{maxDownload}
 use Rattle.model.specs.Config.{findDid, readable, writable}
 use Rattle.model.specs.Values.{Outcome, bytes, error, outcome, value}
-use Rattle.model.specs.Reply.{Reply, positive, negative}
+use Rattle.model.specs.Queue.{Reply, positive, negative}
 use Rattle.model.specs.Service.{Seen, acted, says, answers, refuses}
 use Rattle.model.specs.Service22.{Reading, going, ended, onward, appended, valueAppended, heldFor, readValue, readOne, readAll, readReply, service22}
 use Rattle.model.specs.Service2E.{written, writeRow, service2E}

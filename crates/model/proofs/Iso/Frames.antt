@@ -1,6 +1,6 @@
 -- The general rules of ISO 14229-1: layouts of responses, the sub-function byte, what functional addressing withholds.
 use Prim.Native.Nat.{ℕ, suc, _/_, _%_, _<_}
-use mathlib.Core.Path.{_≡_, refl, sym}
+use mathlib.Core.Path.{_≡_, refl, ap, sym, _∙_}
 use mathlib.Core.Bool.{Bool, true, false, _&&_, _||_}
 use mathlib.Core.List.{List, [], _∷_, _++_, append-nil}
 use mathlib.Core.Option.{Option, some, none}
@@ -13,7 +13,9 @@ use Rattle.model.specs.Tests.{pick, memb}
 use Rattle.model.specs.Numbers.{Moment, maxOutbox}
 use Rattle.model.specs.Frame.{Frame, response, positiveFrame, negativeFrame, suppressed, subFunction, twoBytes}
 use Rattle.model.specs.State.{AddressMode, physical, functional, State, Step, step, withQueue}
-use Rattle.model.specs.Reply.{Reply, silent, positive, negative, always, pends, refusal, withheld, queued, refused, confirmed, begun, replied}
+use Rattle.model.specs.Queue as Queue
+use Rattle.model.specs.Queue.{Reply, silent, positive, negative, always, pends, withheld, leaves, pushed, refused}
+use Rattle.model.specs.Reply.{refusal, taken, queued, confirmed, replied}
 
 -- the identifier of a request is answered with 0x40 added, so each of the fourteen is
 pub positive-identifier : (sid : ℕ) → Iso.RequestIdentifier sid → (fields : List ℕ) → positiveFrame sid fields ≡ Iso.positive sid fields
@@ -91,7 +93,7 @@ to client (m ∷ ms) = record { dst = client; bytes = m } ∷ to client ms
 
 -- with room in the queue, a frame is queued behind the others
 pub queues : (s : State) (client : ℕ) (m : List ℕ) → length (s .queue) < maxOutbox → queued s client m ≡ step 0 (withQueue s (s .queue ++ to client (m ∷ [])))
-unfolding queued
+unfolding queued pushed
 queues s client m room = rw (lt-ltb _ _ room)
 
 -- a code that is none of the five is sent
@@ -104,34 +106,34 @@ module _ (limit : ℕ) (s : State) (client sid : ℕ) (now : Moment) (room : len
   abbrev Sends : Step → Iso.Response → Type 0
   Sends p a = p .state .queue ≡ s .queue ++ to client (Iso.messages (functionally (s .mode)) limit sid a)
 
-  refuses : (code : ℕ) → Sends (refused s client sid code) (Iso.negativeResponse code)
-  unfolding refused
+  refuses : (code : ℕ) → Sends (taken s (refused (s .mode) (s .queue) client sid code)) (Iso.negativeResponse code)
+  unfolding queued refused
   refuses code = rw (five-withheld (s .mode) code) (go (functionally (s .mode) && Iso.listed Iso.notSentFunctionally code))
     where
-      go : (t : Bool) → pick t (step 0 s) (queued s client (negativeFrame sid code)) .state .queue ≡ s .queue ++ to client (Iso.unless t (Iso.negative sid code))
+      go : (t : Bool) → pick t (leaves 0 (s .queue)) (pushed (s .queue) client (negativeFrame sid code)) .queue ≡ s .queue ++ to client (Iso.unless t (Iso.negative sid code))
       go true = sym (append-nil (s .queue))
-      go false = rw (queues s client (negativeFrame sid code))
+      go false = ap (λ (p : Step). p .state .queue) (queues s client (negativeFrame sid code) room)
 
   pub confirms : Iso.RequestIdentifier sid → (fields : List ℕ) → Sends (confirmed limit s client sid fields) (Iso.positiveResponse fields)
-  unfolding confirmed
+  unfolding queued confirmed Queue.confirmed
   confirms h fields = go (leb (suc (length fields)) limit)
     where
-      go : (t : Bool) → pick t (queued s client (positiveFrame sid fields)) (refused s client sid 0x14) .state .queue
+      go : (t : Bool) → pick t (pushed (s .queue) client (positiveFrame sid fields)) (refused (s .mode) (s .queue) client sid 0x14) .queue
           ≡ s .queue ++ to client (Iso.fitting t (Iso.positive sid fields) (Iso.negative sid 0x14))
-      go true = rw (queues s client (positiveFrame sid fields), positive-identifier sid h fields)
+      go true = ap (λ (p : Step). p .state .queue) (queues s client (positiveFrame sid fields) room) ∙ rw (positive-identifier sid h fields)
       go false = rw (unlisted (s .mode) (Iso.negative sid 0x14)) at (refuses 0x14)
 
   -- with room in the queue, a reply is queued as exactly the messages that the standard sends for it
   pub answered : Iso.RequestIdentifier sid → (r : Reply) (a : Iso.Response) → responseOf r ≡ some a
       → replied limit s client sid now r .state .queue ≡ s .queue ++ to client (Iso.messages (functionally (s .mode)) limit sid a)
-  unfolding replied begun queued
+  unfolding replied Queue.answered confirmed pushed
   answered h silent a e = let f : Iso.noResponse ≡ a = cc in rw (← f) (sym (append-nil (s .queue)))
   answered h (positive fields) a e = let f : Iso.positiveResponse fields ≡ a = cc in rw (← f) (confirms h fields)
   answered h (negative code) a e = let f : Iso.negativeResponse code ≡ a = cc in rw (← f) (refuses code)
   answered h (always code) a e = let f : _≡_ {A = ℕ} 0 1 = cc in absurd (omega arith)
   answered h pends a e =
       let f : Iso.negativeResponse 0x78 ≡ a = cc in
-      rw (← f, unlisted (s .mode) (Iso.negative sid 0x78), lt-ltb _ _ room, queued)
+      rw (← f, unlisted (s .mode) (Iso.negative sid 0x78), lt-ltb _ _ room)
 
 -- an error byte is answered as the negative response with that code
 pub refusal-code : (code : ℕ) → responseOf (refusal code) ≡ some (Iso.negativeResponse code)

@@ -14,7 +14,7 @@ use Rattle.model.specs.Numbers.{Span, maxPeriodic}
 use Rattle.model.specs.Config.{findDid, readable}
 use Rattle.model.specs.Frame.{periodicDid}
 use Rattle.model.specs.State.{Subscription}
-use Rattle.model.specs.Reply.{negative}
+use Rattle.model.specs.Queue.{negative}
 use Rattle.model.specs.Service.{Seen, Effect, schedules}
 use Rattle.model.specs.Service2A.{rateOf, isSubscription, subscription, renewed, register, intervalFor, registered, registerAll, cancelAll, transmission, service2A}
 use Rattle.model.proofs.Laws.{left, both}

@@ -15,7 +15,8 @@ use Rattle.model.specs.Config.{ServiceConfig, findService, allowedIn}
 use Rattle.model.specs.Values.{Outcome, bytes, error}
 use Rattle.model.specs.Frame.{sidOf}
 use Rattle.model.specs.State.{AddressMode, PendingRequest, State, Step, step, valid, received}
-use Rattle.model.specs.Reply.{Reply, queued, replied}
+use Rattle.model.specs.Queue.{Reply, pushed}
+use Rattle.model.specs.Reply.{queued, replied}
 use Rattle.model.specs.Service.{Seen, Effect, Served, acted, apply, changed, changedAfter}
 use Rattle.model.specs.Request.{Request, seen, service, guarded, served, carried, heard, addressed, routed, request}
 use Rattle.model.specs.Service10.{service10}
@@ -125,7 +126,7 @@ not-served sid v n = rw (ne 0x3E refl, ne 0x10 refl, ne 0x11 refl, ne 0x27 refl,
 pub busy : (limit : ℕ) (s : State) (r : Request) (m : AddressMode) (p : PendingRequest)
     → valid limit s ≡ true → r .inbound .time ≤ maxTime → addressed (s .config) (r .inbound .dst) ≡ some m → s .pending ≡ some p → length (s .queue) < maxOutbox
     → request limit s r .step .state .queue ≡ s .queue ++ to (r .inbound .dst) (Iso.negative (sidOf (r .inbound .frame)) Iso.busyRepeatRequest ∷ [])
-unfolding queued
+unfolding queued pushed
 busy limit s r m p h t e f room = rw (busy-first limit s r m p h t e f, lt-ltb _ _ room)
 
 -- the services that also answer requests which are shorter than the standard's shortest

@@ -6,17 +6,17 @@ use mathlib.Core.List.{List, [], _∷_, _++_}
 use mathlib.Core.Option.{Option, some, none}
 use native.Mathlib.Omega.{arith}
 use lib.ListN.{length}
-use lib.Dec.{eqb, leb, ltb}
+use lib.Dec.{eqb, leb}
 use borrow.Author.Tests.{lt-ltb, le-ltb, le-leb, lt-leb, eq-eqb, ne-eqb}
 use Rattle.model.specs.Iso
 use Rattle.model.specs.Tests.{pick}
 use Rattle.model.specs.Numbers.{Moment, Span, maxOutbox, maxTime}
 use Rattle.model.specs.Config.{findSession, s3Of, p2ExtOf}
 use Rattle.model.specs.Values.{bytes, Table, value}
-use Rattle.model.specs.Frame.{negativeFrame}
-use Rattle.model.specs.State.{State, Step, step, Subscription, PendingRequest, valid, withPending, withQueue}
-use Rattle.model.specs.Reply.{queued, pends, replied, begun}
-use Rattle.model.specs.Tick.{s3, refreshed, Passed, passOne, dueSent, periodic, thenPeriodic, tick}
+use Rattle.model.specs.State.{State, Step, step, Subscription, PendingRequest, valid, withPending}
+use Rattle.model.specs.Queue.{pends, pushed, answered, sent}
+use Rattle.model.specs.Reply.{queued, replied, begun}
+use Rattle.model.specs.Tick.{s3, refreshed, Passed, passOne, passed, dueSent, periodic, thenPeriodic, tick}
 use Rattle.model.specs.Pending.{completed, failed, complete, fail}
 use Rattle.model.proofs.Iso.Frames.{to, confirms}
 
@@ -57,22 +57,13 @@ ticks limit s now t v h = rw (v, le-leb _ _ h) (go (refreshed (s3 s now) now (s 
     go p false = refl
 
 -- so what S3 does to session and security, a tick does
-keeps : (s : State) (client : ℕ) (m : List ℕ) → (queued s client m .state .session ≡ s .session) × (queued s client m .state .security ≡ s .security)
-unfolding queued
-keeps s client m = go (ltb (length (s .queue)) maxOutbox)
-  where
-    go : (t : Bool) → (pick t (step 0 (withQueue s (s .queue ++ to client (m ∷ [])))) (step 3 s) .state .session ≡ s .session)
-        × (pick t (step 0 (withQueue s (s .queue ++ to client (m ∷ [])))) (step 3 s) .state .security ≡ s .security)
-    go true = (refl, refl)
-    go false = (refl, refl)
-
 refresh-keeps : (s : State) (now : Moment) (o : Option PendingRequest) → (refreshed s now o .state .session ≡ s .session) × (refreshed s now o .state .security ≡ s .security)
 unfolding refreshed begun
 refresh-keeps s now none = (refl, refl)
 refresh-keeps s now (some p) = go (leb (p .deadline) now)
   where
     go : (t : Bool) → (pick t (begun s (p .dst) (p .sid) now) (step 0 s) .state .session ≡ s .session) × (pick t (begun s (p .dst) (p .sid) now) (step 0 s) .state .security ≡ s .security)
-    go true = keeps (withPending s _) (p .dst) (negativeFrame (p .sid) 0x78)
+    go true = (refl, refl)
     go false = (refl, refl)
 
 pub s3-ticks : (limit : ℕ) (s : State) (now : Moment) (t : Table) → valid limit s ≡ true → now ≤ maxTime
@@ -86,14 +77,14 @@ s3-ticks limit s now t v h =
 pub pending-begins : (limit : ℕ) (s : State) (client sid : ℕ) (now : Moment) → length (s .queue) < maxOutbox
     → (replied limit s client sid now pends .state .pending ≡ some (record { dst = client; sid = sid; deadline = Iso.nextDue (p2StarHere s) now }))
     × (replied limit s client sid now pends .state .queue ≡ s .queue ++ to client (Iso.pendingMessage sid ∷ []))
-unfolding replied begun queued
+unfolding replied answered pushed
 pending-begins limit s client sid now room = rw (lt-ltb _ _ room) (refl, refl)
 
 -- when it is due, 78 is sent again, and P2* runs anew
 pub pending-repeats : (s : State) (now : Moment) (p : PendingRequest) → p .deadline ≤ now → length (s .queue) < maxOutbox
     → (refreshed s now (some p) .state .pending ≡ some (record { dst = p .dst; sid = p .sid; deadline = Iso.nextDue (p2StarHere s) now }))
     × (refreshed s now (some p) .state .queue ≡ s .queue ++ to (p .dst) (Iso.pendingMessage (p .sid) ∷ []))
-unfolding refreshed begun queued
+unfolding refreshed begun pushed
 pending-repeats s now p h room = rw (le-leb _ _ h, lt-ltb _ _ room) (refl, refl)
 
 -- and not before
@@ -109,7 +100,7 @@ module _ (limit : ℕ) (s : State) (now : Moment) (p : PendingRequest) (v : vali
   final-positive k fields = rw (v, le-leb _ _ h, e) (confirms limit (withPending s none) (p .dst) (p .sid) now room k fields)
 
   pub final-negative : (code : ℕ) → fail limit s now code .state .queue ≡ s .queue ++ to (p .dst) (Iso.finalMessages limit (p .sid) (Iso.negativeResponse code))
-  unfolding fail failed queued
+  unfolding fail failed queued pushed
   final-negative code = rw (v, le-leb _ _ h, e, lt-ltb _ _ room)
 
 -- a subscription that is due sends its identifier's low byte and its record to its client
@@ -117,7 +108,7 @@ pub periodic-message : (limit : ℕ) (now : Moment) (t : Table) (a : Passed) (e 
     → a .result ≡ 0 → e .next ≤ now → e .identifier ≡ Iso.periodicIdentifier low → low < 256 → value limit t (e .identifier) ≡ bytes b
     → suc (length b) ≤ limit → length (a .queue) < maxOutbox
     → passOne limit now t a e .queue ≡ a .queue ++ to (e .client) (Iso.periodicMessage low b ∷ [])
-unfolding passOne dueSent
+unfolding passOne dueSent passed sent pushed
 periodic-message limit now t a e low b z due i small f fits room =
     let k : e .identifier % 256 ≡ low = omega arith in
     rw (eq-eqb _ _ z, le-leb _ _ due, f, le-leb _ _ fits, lt-ltb _ _ room, k)

@@ -13,7 +13,8 @@ use Rattle.model.specs.Numbers.{Moment, maxOutbox}
 use Rattle.model.specs.Values.{Outcome, bytes, error, Table, value}
 use Rattle.model.specs.Frame.{Frame}
 use Rattle.model.specs.State.{Subscription}
-use Rattle.model.specs.Tick.{Passed, kept, stopped, advanced, dueSent, passOne, passAll}
+use Rattle.model.specs.Queue.{QueueStep, pushed, sent}
+use Rattle.model.specs.Tick.{Passed, kept, stopped, advanced, passed, dueSent, passOne, passAll}
 use Rattle.model.proofs.Laws.{either}
 
 -- an error value meets 8, whatever the queue, and its byte goes with it
@@ -23,13 +24,13 @@ due-8 limit now a e code = refl
 
 -- a value that exceeds the limit, with the identifier byte, meets 4, even where 16 frames are held
 pub due-4 : (limit : ℕ) (now : Moment) (a : Passed) (e : Subscription) (b : List ℕ) → limit < suc (length b) → dueSent limit now a e (bytes b) ≡ stopped a e 4 0
-unfolding dueSent
+unfolding dueSent passed sent
 due-4 limit now a e b h = rw (lt-leb (suc (length b)) limit h) refl
 
 -- a value that fits meets 3 where 16 frames are held
 pub due-3 : (limit : ℕ) (now : Moment) (a : Passed) (e : Subscription) (b : List ℕ) → suc (length b) ≤ limit → maxOutbox ≤ length (a .queue)
     → dueSent limit now a e (bytes b) ≡ stopped a e 3 0
-unfolding dueSent
+unfolding dueSent passed sent pushed
 due-3 limit now a e b h k = rw (le-leb (suc (length b)) limit h, le-ltb (length (a .queue)) maxOutbox k) refl
 
 -- an entry as it is after its turn: advanced if it was due
@@ -90,13 +91,13 @@ module _ (limit : ℕ) (now : Moment) (t : Table) where
   -- a due entry that met nothing is advanced, and its frame queued
   due-clean : (a : Passed) (e : Subscription) (o : Outcome) → dueSent limit now a e o .result ≡ 0
       → (dueSent limit now a e o .entries ≡ a .entries ++ (advanced now e ∷ [])) × (dueSent limit now a e o .queue ≡ a .queue ++ frameOf e o)
-  unfolding dueSent
+  unfolding dueSent passed sent pushed
   due-clean a e (error code) z = absurd (omega arith)
   due-clean a e (bytes b) z =
       either Clean (leb (suc (length b)) limit) (either Clean (ltb (length (a .queue)) maxOutbox) (λ y. (refl, refl)) (λ y. absurd (omega arith))) (λ y. absurd (omega arith)) z
     where
-      Clean : Passed → Type 0
-      Clean p = p .result ≡ 0 → (p .entries ≡ a .entries ++ (advanced now e ∷ [])) × (p .queue ≡ a .queue ++ frameOf e (bytes b))
+      Clean : QueueStep → Type 0
+      Clean p = passed now a e p .result ≡ 0 → (passed now a e p .entries ≡ a .entries ++ (advanced now e ∷ [])) × (passed now a e p .queue ≡ a .queue ++ frameOf e (bytes b))
 
   -- one that was not due stands, and queues nothing
   one-clean : (a : Passed) (e : Subscription) → a .result ≡ 0 → passOne limit now t a e .result ≡ 0
@@ -136,12 +137,12 @@ module _ (limit : ℕ) (now : Moment) (t : Table) where
   -- a due entry either is sent, with 0, or stops the step
   due-stops : (a : Passed) (e : Subscription) (o : Outcome) → a .result ≡ 0 → (dueSent limit now a e o .result ≡ 0 → ⊥)
       → dueSent limit now a e o ≡ stopped a e (dueSent limit now a e o .result) (dueSent limit now a e o .err)
-  unfolding dueSent
+  unfolding dueSent passed sent pushed
   due-stops a e (error code) r z = refl
   due-stops a e (bytes b) r z = either Stops (leb (suc (length b)) limit) (either Stops (ltb (length (a .queue)) maxOutbox) (λ y. absurd (y r)) (λ y. refl)) (λ y. refl) z
     where
-      Stops : Passed → Type 0
-      Stops p = (p .result ≡ 0 → ⊥) → p ≡ stopped a e (p .result) (p .err)
+      Stops : QueueStep → Type 0
+      Stops p = (passed now a e p .result ≡ 0 → ⊥) → passed now a e p ≡ stopped a e (passed now a e p .result) (passed now a e p .err)
 
   -- one entry that changes a result from 0 was due, and met it
   one-met : (a : Passed) (e : Subscription) → a .result ≡ 0 → (passOne limit now t a e .result ≡ 0 → ⊥)

@@ -12,8 +12,10 @@ use borrow.Author.Tests.{ltb-false, le-ltb}
 use Rattle.model.specs.Tests.{pick, memb}
 use Rattle.model.specs.Numbers.{Moment, maxOutbox}
 use Rattle.model.specs.Config.{Config, findSession, p2ExtOf}
-use Rattle.model.specs.State.{AddressMode, physical, functional, Session, Security, Subscription, PendingRequest, State, Step, step, withQueue, withPending}
-use Rattle.model.specs.Reply.{Reply, silent, positive, negative, always, pends, queued, withheld, refused, confirmed, begun, replied}
+use Rattle.model.specs.State.{AddressMode, physical, functional, Session, Security, Subscription, PendingRequest, State, Step, step, withPending}
+use Rattle.model.specs.Queue as Queue
+use Rattle.model.specs.Queue.{QueueStep, Reply, silent, positive, negative, always, pends, leaves, pushed, withheld, refused, answered}
+use Rattle.model.specs.Reply.{taken, queued, confirmed, begun, replied}
 use Rattle.model.specs.Frame.{positiveFrame, negativeFrame}
 use Rattle.model.specs.Values.{bytes}
 use Rattle.model.specs.Service.{Seen, Effect, changed, changedAfter, apply}
@@ -22,16 +24,16 @@ use Rattle.model.proofs.Laws.{either, Each, memb-each}
 
 -- where 16 frames are held, a frame to be queued meets 3 and leaves the state that it was given
 pub queued-full : (s : State) (to : ℕ) (b : List ℕ) → maxOutbox ≤ length (s .queue) → queued s to b ≡ step 3 s
-unfolding queued
+unfolding queued pushed
 queued-full s to b h = rw (le-ltb (length (s .queue)) maxOutbox h)
 
 -- and it meets 3 only then
 pub queued-3 : (s : State) (to : ℕ) (b : List ℕ) → (queued s to b .result ≡ 3) ↔ (maxOutbox ≤ length (s .queue))
-unfolding queued
+unfolding queued pushed
 queued-3 s to b = (go (ltb (length (s .queue)) maxOutbox) refl, λ h. rw (le-ltb (length (s .queue)) maxOutbox h))
   where
     go : (t : Bool) → ltb (length (s .queue)) maxOutbox ≡ t
-        → pick t (step 0 (withQueue s (s .queue ++ (record { dst = to; bytes = b } ∷ [])))) (step 3 s) .result ≡ 3 → maxOutbox ≤ length (s .queue)
+        → pick t (leaves 0 (s .queue ++ (record { dst = to; bytes = b } ∷ []))) (leaves 3 (s .queue)) .result ≡ 3 → maxOutbox ≤ length (s .queue)
     go true e z = absurd (omega arith)
     go false e z = ltb-false (length (s .queue)) maxOutbox e
 
@@ -45,28 +47,31 @@ queued-unmoved s to b z = ap (λ (p : Step). p .state) (queued-full s to b (queu
 
 -- and where a positive payload is answered, with 0x14 in its place or not
 pub confirmed-unmoved : (limit : ℕ) (s : State) (to sid : ℕ) (p : List ℕ) → Unmoved s (confirmed limit s to sid p)
-unfolding confirmed refused
+unfolding confirmed queued Queue.confirmed refused
 confirmed-unmoved limit s to sid p =
-    either (Unmoved s) (leb (suc (length p)) limit) (queued-unmoved s to (positiveFrame sid p))
-    (either (Unmoved s) (withheld (s .mode) 0x14) (λ z. refl) (queued-unmoved s to (negativeFrame sid 0x14)))
+    either Stays (leb (suc (length p)) limit) (queued-unmoved s to (positiveFrame sid p))
+    (either Stays (withheld (s .mode) 0x14) (λ z. refl) (queued-unmoved s to (negativeFrame sid 0x14)))
+  where
+    Stays : QueueStep → Type 0
+    Stays p = Unmoved s (taken s p)
 
 -- after a functional request the codes 11, 12, 31, 7E and 7F are dropped with result 0, and nothing changes
-pub five-withheld : (s : State) (to sid : ℕ) → s .mode ≡ functional → Each (λ code. refused s to sid code ≡ step 0 s) (0x11 ∷ 0x12 ∷ 0x31 ∷ 0x7E ∷ 0x7F ∷ [])
+pub five-withheld : (s : State) (to sid : ℕ) → s .mode ≡ functional → Each (λ code. taken s (refused (s .mode) (s .queue) to sid code) ≡ step 0 s) (0x11 ∷ 0x12 ∷ 0x31 ∷ 0x7E ∷ 0x7F ∷ [])
 unfolding refused withheld
 five-withheld s to sid m = (rw m refl, (rw m refl, (rw m refl, (rw m refl, (rw m refl, tt)))))
 
 -- any other code is queued
-pub others-sent : (s : State) (to sid code : ℕ) → memb code (0x11 ∷ 0x12 ∷ 0x31 ∷ 0x7E ∷ 0x7F ∷ []) ≡ false → refused s to sid code ≡ queued s to (negativeFrame sid code)
-unfolding refused withheld
+pub others-sent : (s : State) (to sid code : ℕ) → memb code (0x11 ∷ 0x12 ∷ 0x31 ∷ 0x7E ∷ 0x7F ∷ []) ≡ false → taken s (refused (s .mode) (s .queue) to sid code) ≡ queued s to (negativeFrame sid code)
+unfolding queued refused withheld
 others-sent s to sid code h = go (s .mode)
   where
-    go : (m : AddressMode) → pick (withheld m code) (step 0 s) (queued s to (negativeFrame sid code)) ≡ queued s to (negativeFrame sid code)
+    go : (m : AddressMode) → taken s (pick (withheld m code) (leaves 0 (s .queue)) (pushed (s .queue) to (negativeFrame sid code))) ≡ queued s to (negativeFrame sid code)
     go physical = refl
     go functional = rw h refl
 
 -- and after a physical request every code is
-pub physical-sent : (s : State) (to sid code : ℕ) → s .mode ≡ physical → refused s to sid code ≡ queued s to (negativeFrame sid code)
-unfolding refused withheld
+pub physical-sent : (s : State) (to sid code : ℕ) → s .mode ≡ physical → taken s (refused (s .mode) (s .queue) to sid code) ≡ queued s to (negativeFrame sid code)
+unfolding queued refused withheld
 physical-sent s to sid code m = rw m refl
 
 -- 3 leaves the queue as it was, and 16 frames were held
@@ -89,22 +94,22 @@ done-answered s = record { result = refl; full = λ z. absurd (omega arith); con
 
 -- so a frame that is queued
 pub queued-answered : (s : State) (to : ℕ) (b : List ℕ) → Answered s (queued s to b)
-unfolding queued
+unfolding queued pushed
 queued-answered s to b = go (ltb (length (s .queue)) maxOutbox) refl
   where
-    go : (t : Bool) → ltb (length (s .queue)) maxOutbox ≡ t → Answered s (pick t (step 0 (withQueue s (s .queue ++ (record { dst = to; bytes = b } ∷ [])))) (step 3 s))
+    go : (t : Bool) → ltb (length (s .queue)) maxOutbox ≡ t → Answered s (taken s (pick t (leaves 0 (s .queue ++ (record { dst = to; bytes = b } ∷ []))) (leaves 3 (s .queue))))
     go true e = record { result = refl; full = λ z. absurd (omega arith); config = refl; mode = refl; session = refl; security = refl; periodic = refl }
     go false e = record { result = refl; full = λ z. (refl, ltb-false (length (s .queue)) maxOutbox e); config = refl; mode = refl; session = refl; security = refl; periodic = refl }
 
 -- a negative code, withheld or not
-pub refused-answered : (s : State) (to sid code : ℕ) → Answered s (refused s to sid code)
-unfolding refused
-refused-answered s to sid code = either (Answered s) (withheld (s .mode) code) (done-answered s) (queued-answered s to (negativeFrame sid code))
+pub refused-answered : (s : State) (to sid code : ℕ) → Answered s (taken s (refused (s .mode) (s .queue) to sid code))
+unfolding queued refused
+refused-answered s to sid code = either (λ (p : QueueStep). Answered s (taken s p)) (withheld (s .mode) code) (done-answered s) (queued-answered s to (negativeFrame sid code))
 
 -- a positive payload, or 0x14
 pub confirmed-answered : (limit : ℕ) (s : State) (to sid : ℕ) (p : List ℕ) → Answered s (confirmed limit s to sid p)
-unfolding confirmed
-confirmed-answered limit s to sid p = either (Answered s) (leb (suc (length p)) limit) (queued-answered s to (positiveFrame sid p)) (refused-answered s to sid 0x14)
+unfolding queued confirmed Queue.confirmed
+confirmed-answered limit s to sid p = either (λ (x : QueueStep). Answered s (taken s x)) (leb (suc (length p)) limit) (queued-answered s to (positiveFrame sid p)) (refused-answered s to sid 0x14)
 
 -- another pending request makes no difference to that
 pub pending-answered : (s : State) (q : Option PendingRequest) (p : Step) → Answered (withPending s q) p → Answered s p
@@ -112,7 +117,7 @@ pending-answered s q p a = record { result = a .result; full = a .full; config =
 
 -- a request that becomes pending
 pub begun-answered : (s : State) (to sid : ℕ) (now : Moment) → Answered s (begun s to sid now)
-unfolding begun
+unfolding queued begun
 begun-answered s to sid now = pending-answered s p (queued (withPending s p) to (negativeFrame sid 0x78)) (queued-answered (withPending s p) to (negativeFrame sid 0x78))
   where
     p : Option PendingRequest
@@ -120,7 +125,7 @@ begun-answered s to sid now = pending-answered s p (queued (withPending s p) to 
 
 -- and any reply
 pub replied-answered : (limit : ℕ) (s : State) (to sid : ℕ) (now : Moment) (r : Reply) → Answered s (replied limit s to sid now r)
-unfolding replied
+unfolding queued confirmed begun replied answered
 replied-answered limit s to sid now silent = done-answered s
 replied-answered limit s to sid now (positive p) = confirmed-answered limit s to sid p
 replied-answered limit s to sid now (negative code) = refused-answered s to sid code

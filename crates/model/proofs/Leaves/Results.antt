@@ -19,11 +19,13 @@ use Rattle.model.specs.Service.{noAct}
 use Rattle.model.specs.Request.{Request, Answer, served, lengthFits, heard, addressed, routed, request}
 use Rattle.model.specs.Question.{bare, askedOf, question}
 use Rattle.model.specs.Pending.{completed, failed, complete, fail}
-use Rattle.model.specs.Tick.{s3, refreshed, Passed, dueSent, passOne, passAll, Ticked, periodic, thenPeriodic, ticked, tick}
-use Rattle.model.specs.Drain.{Drained, records, drain}
+use Rattle.model.specs.Tick.{s3, refreshed, Passed, passed, dueSent, passOne, passAll, Ticked, periodic, thenPeriodic, ticked, tick}
+use Rattle.model.specs.Queue.{QueueStep, QueueDrain, pushed, sent, records, drained}
+use Rattle.model.specs.Drain.{drain}
 use Rattle.model.specs.History.{Call, requests, questions, ticks, completes, fails, drains, Done, call}
 use Rattle.model.proofs.Laws.{either, memb-each}
 use Rattle.model.proofs.Leaves.Replies.{Answered, done-answered, queued-answered, confirmed-answered, begun-answered, pending-answered, Gives, answered-gives, wider, apply-gives}
+use Rattle.model.proofs.Valid.Parts.{valid-parts}
 
 -- when a call is made: a drain has no time, and 0 serves for it
 abbrev pub timeOf : Call → Moment
@@ -113,9 +115,12 @@ Periodic a = memb (a .result) (0 ∷ 3 ∷ 4 ∷ 8 ∷ []) ≡ true
 
 -- a due entry meets one of those
 due-result : (limit : ℕ) (now : Moment) (a : Passed) (e : Subscription) (o : Outcome) → Periodic a → Periodic (dueSent limit now a e o)
-unfolding dueSent
+unfolding dueSent passed sent pushed
 due-result limit now a e (error code) h = refl
-due-result limit now a e (bytes b) h = either Periodic (leb (suc (length b)) limit) (either Periodic (ltb (length (a .queue)) maxOutbox) h refl) refl
+due-result limit now a e (bytes b) h = either Going (leb (suc (length b)) limit) (either Going (ltb (length (a .queue)) maxOutbox) h refl) refl
+  where
+    Going : QueueStep → Type 0
+    Going p = Periodic (passed now a e p)
 
 -- so the whole step does
 passAll-result : (limit : ℕ) (now : Moment) (t : Table) (es : List Subscription) (a : Passed) → Periodic a → Periodic (passAll limit now t es a)
@@ -157,7 +162,7 @@ call-6 limit s (drains buffer) e h = absurd (omega arith)
 
 -- a valid state and a time up to 2^48: the other numbers
 pub call-passing : (limit : ℕ) (s : State) (c : Call) → valid limit s ≡ true → timeOf c ≤ maxTime → memb (call limit s c .shown .result) (passing c) ≡ true
-unfolding call request question askedOf tick complete fail drain
+unfolding call request question askedOf tick complete fail drain drained
 call-passing limit s (requests r) e h = rw (e, le-leb (r .inbound .time) maxTime h) (routed-gives limit s r (addressed (s .config) (r .inbound .dst)) .result)
 call-passing limit s (questions i) e h =
     rw (e, le-leb (i .time) maxTime h)
@@ -168,4 +173,4 @@ call-passing limit s (ticks now t) e h = rw (e, le-leb now maxTime h) (ticked-re
 call-passing limit s (completes now payload) e h = rw (e, le-leb now maxTime h) (completed-gives limit s payload (s .pending) .result)
 call-passing limit s (fails now code) e h = rw (e, le-leb now maxTime h) (failed-gives s code (s .pending) .result)
 call-passing limit s (drains buffer) e h =
-    rw e (either (λ (d : Drained). memb (d .step .result) (0 ∷ 5 ∷ []) ≡ true) (leb (length (records (s .queue))) (length buffer)) refl refl)
+    rw (e, valid-parts limit s e .queue) (either (λ (d : QueueDrain). memb (d .result) (0 ∷ 5 ∷ []) ≡ true) (leb (length (records (s .queue))) (length buffer)) refl refl)

@@ -1,5 +1,5 @@
 -- 8, 4 and 3 of a tick: given exactly when, and what they leave.
-use Prim.Native.Nat.{ℕ, suc, _≤_, _<_}
+use Prim.Native.Nat.{ℕ, suc, _≤_, _<_, _%_}
 use mathlib.Core.Path.{_≡_, refl, ap, sym, _∙_}
 use mathlib.Core.Bool.{Bool, true, false}
 use mathlib.Core.Logic.{_⊎_, inl, inr}
@@ -11,8 +11,10 @@ use borrow.Author.Tests.{leb-true, leb-false, ltb-false, le-leb, eq-eqb}
 use Rattle.model.specs.Tests.{pick}
 use Rattle.model.specs.Numbers.{Moment, maxTime, maxOutbox}
 use Rattle.model.specs.Values.{Outcome, bytes, error, Table, value}
+use Rattle.model.specs.Frame.{Frame}
 use Rattle.model.specs.State.{Subscription, State, Step, step, valid}
-use Rattle.model.specs.Tick.{s3, refreshed, Passed, stopped, sent, dueSent, passAll, Ticked, withPassed, periodic, thenPeriodic, tick}
+use Rattle.model.specs.Queue.{leaves, pushed, sent}
+use Rattle.model.specs.Tick.{s3, refreshed, Passed, stopped, passed, dueSent, passAll, Ticked, withPassed, periodic, thenPeriodic, tick}
 use Rattle.model.proofs.Laws.{memb-each}
 use Rattle.model.proofs.Leaves.Results.{refreshed-answered}
 use Rattle.model.proofs.Leaves.Periodic.{due-8, due-4, due-3, dueFrames, moved, stops-at, passed-clean, Met, met}
@@ -32,15 +34,18 @@ module _ (limit : ℕ) (now : Moment) (a : Passed) (e : Subscription) (n err : �
 
   -- and for no others
   pub stops-why : (o : Outcome) → a .result ≡ 0 → (n ≡ 0 → ⊥) → dueSent limit now a e o ≡ stopped a e n err → Why limit a n err o
-  unfolding dueSent
+  unfolding dueSent passed sent pushed
   stops-why (error code) r z m = (sym (ap (λ (p : Passed). p .result) m), sym (ap (λ (p : Passed). p .err) m))
   stops-why (bytes b) r z m = long (leb (suc (length b)) limit) refl m
     where
-      full : (u : Bool) → ltb (length (a .queue)) maxOutbox ≡ u → suc (length b) ≤ limit → pick u (sent a now e b) (stopped a e 3 0) ≡ stopped a e n err → Why limit a n err (bytes b)
+      f : Frame
+      f = record { dst = e .client; bytes = e .identifier % 256 ∷ b }
+
+      full : (u : Bool) → ltb (length (a .queue)) maxOutbox ≡ u → suc (length b) ≤ limit → passed now a e (pick u (leaves 0 (a .queue ++ (f ∷ []))) (leaves 3 (a .queue))) ≡ stopped a e n err → Why limit a n err (bytes b)
       full true q l p = absurd (z (sym (ap (λ (p : Passed). p .result) p) ∙ r))
       full false q l p = inr (sym (ap (λ (p : Passed). p .result) p), sym (ap (λ (p : Passed). p .err) p), l, ltb-false (length (a .queue)) maxOutbox q)
 
-      long : (u : Bool) → leb (suc (length b)) limit ≡ u → pick u (pick (ltb (length (a .queue)) maxOutbox) (sent a now e b) (stopped a e 3 0)) (stopped a e 4 0) ≡ stopped a e n err
+      long : (u : Bool) → leb (suc (length b)) limit ≡ u → passed now a e (pick u (pushed (a .queue) (e .client) (e .identifier % 256 ∷ b)) (leaves 4 (a .queue))) ≡ stopped a e n err
           → Why limit a n err (bytes b)
       long true q p = full (ltb (length (a .queue)) maxOutbox) refl (leb-true (suc (length b)) limit q) p
       long false q p = inl (sym (ap (λ (p : Passed). p .result) p), sym (ap (λ (p : Passed). p .err) p), leb-false (suc (length b)) limit q)

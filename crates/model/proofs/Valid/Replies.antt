@@ -12,8 +12,10 @@ use Rattle.model.specs.Tests.{pick}
 use Rattle.model.specs.Numbers.{Moment, maxOutbox, maxTime}
 use Rattle.model.specs.Config.{findSession, p2ExtOf}
 use Rattle.model.specs.Frame.{Frame, positiveFrame, negativeFrame}
-use Rattle.model.specs.State.{PendingRequest, State, Step, step, momentValid, securityValid, pendingValid, frameValid, withQueue, withPending}
-use Rattle.model.specs.Reply.{Reply, silent, positive, negative, always, pends, queued, withheld, refused, confirmed, begun, replied}
+use Rattle.model.specs.State.{PendingRequest, State, Step, momentValid, securityValid, pendingValid, frameValid, withPending}
+use Rattle.model.specs.Queue as Queue
+use Rattle.model.specs.Queue.{QueueStep, Reply, silent, positive, negative, always, pends, leaves, pushed, withheld, refused, answered}
+use Rattle.model.specs.Reply.{taken, queued, confirmed, begun, replied}
 use Rattle.model.specs.Service.{Effect, changed, changedAfter, apply}
 use Rattle.model.proofs.Laws.{both, either, all-snoc, within-all, table-within}
 use Rattle.model.proofs.Valid.Parts.{Subscribed, Queued, Valid, p2Ext-below, later-valid}
@@ -33,13 +35,13 @@ pending-valid h e = record { config = h .config; lastRx = h .lastRx; security = 
 
 -- a frame queued has at least a byte and at most `limit`
 pub queued-valid : (limit : ℕ) (s : State) (to : ℕ) (b : List ℕ) → Valid limit s → 1 ≤ length b → length b ≤ limit → ValidStep limit (queued s to b)
-unfolding queued
+unfolding queued pushed
 queued-valid limit s to b h low high = go (ltb (length (s .queue)) maxOutbox) refl
   where
     f : Frame
     f = record { dst = to; bytes = b }
 
-    go : (t : Bool) → ltb (length (s .queue)) maxOutbox ≡ t → ValidStep limit (pick t (step 0 (withQueue s (s .queue ++ (f ∷ [])))) (step 3 s))
+    go : (t : Bool) → ltb (length (s .queue)) maxOutbox ≡ t → ValidStep limit (taken s (pick t (leaves 0 (s .queue ++ (f ∷ []))) (leaves 3 (s .queue))))
     go false e = h
     go true e = record {
       config = h .config;
@@ -66,29 +68,29 @@ module _ (limit : ℕ) (room : 3 ≤ limit) where
   negative-valid {s} to sid code h = queued-valid limit s to (negativeFrame sid code) h (omega arith) (omega arith)
 
   -- a negative frame that may be withheld
-  pub refused-valid : (s : State) (to sid code : ℕ) → Valid limit s → ValidStep limit (refused s to sid code)
-  unfolding refused
-  refused-valid s to sid code h = either (ValidStep limit) (withheld (s .mode) code) h (negative-valid to sid code h)
+  pub refused-valid : (s : State) (to sid code : ℕ) → Valid limit s → ValidStep limit (taken s (refused (s .mode) (s .queue) to sid code))
+  unfolding queued refused
+  refused-valid s to sid code h = either (λ (p : QueueStep). ValidStep limit (taken s p)) (withheld (s .mode) code) h (negative-valid to sid code h)
 
   -- a positive frame within the limit, or 0x14
   pub confirmed-valid : (s : State) (to sid : ℕ) (p : List ℕ) → Valid limit s → ValidStep limit (confirmed limit s to sid p)
-  unfolding confirmed
+  unfolding queued confirmed Queue.confirmed
   confirmed-valid s to sid p h = go (leb (suc (length p)) limit) refl
     where
-      go : (t : Bool) → leb (suc (length p)) limit ≡ t → ValidStep limit (pick t (queued s to (positiveFrame sid p)) (refused s to sid 0x14))
+      go : (t : Bool) → leb (suc (length p)) limit ≡ t → ValidStep limit (taken s (pick t (pushed (s .queue) to (positiveFrame sid p)) (refused (s .mode) (s .queue) to sid 0x14)))
       go true e = queued-valid limit s to (positiveFrame sid p) h (omega arith) (leb-true (suc (length p)) limit e)
       go false e = refused-valid s to sid 0x14 h
 
   -- a request that becomes pending: its deadline is now plus P2*
   pub begun-valid : (s : State) (to sid : ℕ) (now : Moment) → now ≤ maxTime → Valid limit s → ValidStep limit (begun s to sid now)
-  unfolding begun
+  unfolding queued begun
   begun-valid s to sid now t h =
       let span = p2Ext-below (s .config) (s .session .sessionType) (h .config) in
       negative-valid to sid 0x78 (pending-valid h (later-valid now (p2ExtOf (findSession (s .config) (s .session .sessionType))) t span))
 
   -- any reply
   pub replied-valid : (s : State) (to sid : ℕ) (now : Moment) (r : Reply) → now ≤ maxTime → Valid limit s → ValidStep limit (replied limit s to sid now r)
-  unfolding replied
+  unfolding queued confirmed begun replied answered
   replied-valid s to sid now silent t h = h
   replied-valid s to sid now (positive p) t h = confirmed-valid s to sid p h
   replied-valid s to sid now (negative code) t h = refused-valid s to sid code h

@@ -14,7 +14,7 @@ use Rattle.model.specs.Config.{SessionConfig, ServiceConfig, SecurityLev
 use Rattle.model.specs.Values.{Outcome, bytes, error, outcome}
 use Rattle.model.specs.Frame.{subFunction, periodicDid}
 use Rattle.model.specs.State.{Security, Failed, Lock, Subscription, momentValid, lockValid, securityValid, subscriptionValid, cleared}
-use Rattle.model.specs.Reply.{Reply, positive, negative}
+use Rattle.model.specs.Queue.{Reply, positive, negative}
 use Rattle.model.specs.Service.{Seen, Effect, Served, says, secures}
 use Rattle.model.specs.Service3E.{service3E}
 use Rattle.model.specs.Service10.{service10, sessionControl}

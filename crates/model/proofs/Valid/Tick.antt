@@ -13,7 +13,8 @@ use Rattle.model.specs.Numbers.{Moment, maxOutbox, maxTime, maxSpan, max
 use Rattle.model.specs.Values.{Outcome, bytes, error, Table, value}
 use Rattle.model.specs.Frame.{Frame}
 use Rattle.model.specs.State.{Subscription, PendingRequest, State, Step, momentValid, subscriptionValid}
-use Rattle.model.specs.Tick.{expired, s3, refreshed, Passed, stopped, advanced, sent, dueSent, passOne, passAll, Ticked, periodic, thenPeriodic, ticked}
+use Rattle.model.specs.Queue.{leaves, pushed, sent}
+use Rattle.model.specs.Tick.{expired, s3, refreshed, Passed, advanced, passed, dueSent, passOne, passAll, Ticked, periodic, thenPeriodic, ticked}
 use Rattle.model.proofs.Laws.{both, left, right, either, all-snoc, within-length, within-all, table-within}
 use Rattle.model.specs.Reply.{begun}
 use Rattle.model.proofs.Valid.Parts.{Queued, Valid, later-valid}
@@ -45,18 +46,21 @@ module _ (limit : ℕ) (now : Moment) (t : Table) (time : now ≤ maxTime) where
   -- a due entry
   due-stands : (rest : List Subscription) (a : Passed) (e : Subscription) (o : Outcome) → Standing limit (e ∷ rest) a → subscriptionValid e ≡ true
       → Standing limit rest (dueSent limit now a e o)
-  unfolding dueSent
+  unfolding dueSent passed sent pushed
   due-stands rest a e (error code) h g = passed-on rest a e e 8 code (a .queue) h g (h .queue)
   due-stands rest a e (bytes b) h g = long (leb (suc (length b)) limit) refl
     where
-      full : (u : Bool) → ltb (length (a .queue)) maxOutbox ≡ u → suc (length b) ≤ limit → Standing limit rest (pick u (sent a now e b) (stopped a e 3 0))
+      f : Frame
+      f = record { dst = e .client; bytes = e .identifier % 256 ∷ b }
+
+      full : (u : Bool) → ltb (length (a .queue)) maxOutbox ≡ u → suc (length b) ≤ limit → Standing limit rest (passed now a e (pick u (leaves 0 (a .queue ++ (f ∷ []))) (leaves 3 (a .queue))))
       full true r l =
-          passed-on rest a e (advanced now e) (a .result) (a .err) (sent a now e b .queue) h (advanced-valid now e time g)
-          (frames-snoc limit (a .queue) (record { dst = e .client; bytes = e .identifier % 256 ∷ b }) (h .queue)
+          passed-on rest a e (advanced now e) (a .result) (a .err) (a .queue ++ (f ∷ [])) h (advanced-valid now e time g)
+          (frames-snoc limit (a .queue) f (h .queue)
           (both (le-leb 1 (suc (length b)) (omega arith)) (le-leb (suc (length b)) limit l)) (ltb-true (length (a .queue)) maxOutbox r))
       full false r l = passed-on rest a e e 3 0 (a .queue) h g (h .queue)
 
-      long : (u : Bool) → leb (suc (length b)) limit ≡ u → Standing limit rest (pick u (pick (ltb (length (a .queue)) maxOutbox) (sent a now e b) (stopped a e 3 0)) (stopped a e 4 0))
+      long : (u : Bool) → leb (suc (length b)) limit ≡ u → Standing limit rest (passed now a e (pick u (pushed (a .queue) (e .client) (e .identifier % 256 ∷ b)) (leaves 4 (a .queue))))
       long true r = full (ltb (length (a .queue)) maxOutbox) refl (leb-true (suc (length b)) limit r)
       long false r = passed-on rest a e e 4 0 (a .queue) h g (h .queue)
 

@@ -6,7 +6,7 @@ use denote.Ref.{now}
 use lib.ListN.{length}
 use borrow.Author.Needs.{needs}
 use Rattle.model.specs.Frame.{Frame}
-use Rattle.model.specs.Drain.{records}
+use Rattle.model.specs.Queue.{records}
 use Rattle.uds.specs.Table.{tab}
 use Rattle.uds.proofs.Tab.{tab-all}
 use Rattle.queue.specs.View.{roomSize, frameAt, queueOf}

@@ -1,6 +1,6 @@
 use mathlib.Core.Path.{refl, _∙_}
 use borrow.Author.Needs.{needs}
-use Rattle.queue.specs.Model.{answered}
+use Rattle.model.specs.Queue.{answered}
 use Rattle.queue.proofs.reply.answer.Statement.{statement}
 use Rattle.queue.proofs.reply.answer.Tie as tie
 

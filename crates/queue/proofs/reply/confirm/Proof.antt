@@ -6,7 +6,7 @@ use denote.Ref.{now}
 use lib.ListN.{length}
 use borrow.Author.Needs.{needs}
 use Rattle.model.specs.Numbers.{maxFrame}
-use Rattle.queue.specs.Model.{sent}
+use Rattle.model.specs.Queue.{sent}
 use Rattle.queue.specs.View.{modeOf, queueOf, draftOf}
 use Rattle.queue.proofs.Room.{draft-length}
 use Rattle.queue.proofs.Laws.{confirmed-short, confirmed-long}

@@ -3,7 +3,7 @@ use mathlib.Core.Bool.{false}
 use mathlib.Core.Logic.{⊎-elim}
 use denote.Ref.{now}
 use borrow.Author.Needs.{needs}
-use Rattle.model.specs.Reply.{withheld}
+use Rattle.model.specs.Queue.{withheld}
 use Rattle.queue.specs.View.{modeOf, queueOf}
 use Rattle.queue.proofs.Laws.{refused-silent, refused-said, unwithheld}
 use Rattle.queue.proofs.reply.refuse.Statement.{statement}

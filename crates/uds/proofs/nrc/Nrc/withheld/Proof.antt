@@ -5,7 +5,7 @@ use native.Mathlib.Omega.{arith}
 use lib.ListN.{drop}
 use borrow.Author.Needs.{needs}
 use Rattle.model.specs.Tests.{memb}
-use Rattle.model.specs.Reply.{functionallySuppressed, withheld}
+use Rattle.model.specs.Queue.{functionallySuppressed, withheld}
 use Rattle.uds.proofs.Lists.{here, onward, nowhere}
 use Rattle.uds.proofs.nrc.Nrc.withheld.Statement.{statement}
 use Rattle.uds.proofs.nrc.Nrc.withheld.Tie as tie

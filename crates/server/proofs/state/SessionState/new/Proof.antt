@@ -1,9 +1,0 @@
-use mathlib.Core.Path.{refl}
-use Rattle.server.proofs.state.SessionState.new.Statement.{statement}
-use Rattle.server.proofs.state.SessionState.new.Tie as tie
-
-returns : tie.Need-returns
-returns c = refl
-
-pub new-spec : {M : Type 1} → statement M
-new-spec = tie.close (tie.spec returns)
