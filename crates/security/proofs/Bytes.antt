@@ -12,7 +12,7 @@ use Rattle.model.specs.Numbers.{maxSeed}
 use Rattle.model.specs.State.{Failed, Lock, Security}
 use Rattle.model.specs.Service27.{seeded}
 use Rattle.uds.specs.Table.{tab}
-use Rattle.uds.proofs.Paste.{tab-list}
+use Rattle.uds.proofs.Tab.{tab-list}
 use Rattle.security.specs.View.{seedAt, failedAt, lockAt, securityOf, Fills, Clears, Seeds, ClearsIf}
 use Rattle.security.proofs.Words.{word-here, word-past, failedPair, lockPair, list-same}
 

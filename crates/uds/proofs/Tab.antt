@@ -8,7 +8,8 @@ use native.Mathlib.Omega.{arith}
 use native.Mathlib.Numerals.{add-one}
 use native.Mathlib.Nat.{add-mul, one-mul, mul-zero, mul-le-mul-right, div-lt-iff-lt-mul, lt-of-not-le}
 use native.Mathlib.Decide.{decLe}
-use lib.ListN.{length, getD, List·getD-eq-default}
+use lib.ListN.{length, drop, getD, drop-of-length-le, List·getD-eq-default}
+use lib.Seq.{drop-cons}
 use lib.Dec.{eqb}
 use Rattle.model.specs.Tests.{pick, memb, place, first, examined, all}
 use Rattle.uds.specs.declared.table.Found.{Found}
@@ -199,6 +200,21 @@ listed x l r i e h = ap (λ (r : Found). known (placeOf r)) (sym h) ∙ ap known
 pub not-listed : (x : ℕ) (l : List ℕ) (r : Found) → placeOf r ≡ place (isKey x) l → r ≡ Nothing → false ≡ memb x l
 unfolding known
 not-listed x l r e h = ap (λ (r : Found). known (placeOf r)) (sym h) ∙ ap known e ∙ memb-known x l
+
+-- a table of a list's elements is the list
+tab-from : (f : ℕ → ℕ) (l : List ℕ) (i n : ℕ) → i + n ≡ length l → ((k : ℕ) → i ≤ k → k < i + n → f k ≡ getD l k 0) → tab f i n ≡ drop i l
+tab-from f l i zero e h = sym (drop-of-length-le l {i = i} (omega arith))
+tab-from f l i (suc n) e h =
+    rw (drop-cons l i 0 (omega arith), h i (omega arith) (omega arith), tab-from f l (suc i) n (omega arith) (λ k p q. h k (omega arith) (omega arith)))
+
+pub tab-list : (f : ℕ → ℕ) (l : List ℕ) (n : ℕ) → n ≡ length l → ((k : ℕ) → k < n → f k ≡ getD l k 0) → tab f 0 n ≡ l
+tab-list f l n e h = tab-from f l 0 n (omega arith) (λ k p q. h k (omega arith))
+
+-- an element of a table
+pub tab-at : (f : ℕ → ℕ) (k n i : ℕ) → i < n → getD (tab f k n) i 0 ≡ f (k + i)
+tab-at f k zero i h = absurd (omega arith)
+tab-at f k (suc n) zero h = let e : k ≡ k + 0 = omega arith in ap f e
+tab-at f k (suc n) (suc i) h = let e : suc k + i ≡ k + suc i = omega arith in tab-at f (suc k) n i (omega arith) ∙ ap f e
 
 -- a list of none holds nothing; a word that is not 0 is there
 pub empty-list : (x : ℕ) (f : ℕ → ℕ) (n : ℕ) → n ≡ 0 → false ≡ memb x (tab f 0 n)
