@@ -48,7 +48,8 @@ abbrev pub numberAt : List ℕ → ℕ → Option ℕ → ℕ
 numberAt w from none = 0
 numberAt w from (some i) = rowAt w (from + 1) i
 
--- a number put beside its level: in the level's row, or in a new one at the end; where there is no room for that, every word is as it was
+-- a number put beside its level: in the level's row, or in a new one at the end; where there is no room for that, every word is as it was. The array
+-- is as long as its type says
 pub record Puts (before : List ℕ) (counter from level number : ℕ) (r : Bool) (after : List ℕ) : Type 0 where
   pub again : (i : ℕ) → placed before counter from level ≡ some i → (r ≡ true) × (after ≡ set before (from + 2 * i + 1) number)
   pub first : placed before counter from level ≡ none → getD before counter 0 < maxLevels
@@ -97,10 +98,11 @@ pub record Clears (before after : List ℕ) : Type 0 where
   pub state : securityOf after ≡ cleared (securityOf before)
   pub overwritten : (i : ℕ) → seedAt after i ≡ 0
 
--- a seed of at most 32 bytes that awaits its key, and no byte of an earlier one; a longer one leaves none
+-- what stands in byte i's place: the seed's, 0 past its end, and 0 everywhere where a seed is too long to be kept
 abbrev pub keptSeed : List ℕ → ℕ → ℕ
 keptSeed seed i = pick (leb (length seed) maxSeed) (getD seed i 0) 0
 
+-- a seed of at most 32 bytes that awaits its key, and no byte of an earlier one; a longer one leaves none
 pub record Seeds (before : List ℕ) (level : ℕ) (seed after : List ℕ) : Type 0 where
   pub state : securityOf after ≡ pick (leb (length seed) maxSeed) (seeded (securityOf before) level seed) (cleared (securityOf before))
   pub overwritten : (i : ℕ) → seedAt after i ≡ keptSeed seed i
