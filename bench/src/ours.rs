@@ -18,7 +18,7 @@ struct Drained {
 }
 
 unsafe extern "C" {
-    fn coldlinch_confirm(
+    fn bench_confirm(
         count: u8,
         heads: &mut Heads,
         room: &mut Room,
@@ -30,7 +30,7 @@ unsafe extern "C" {
     ) -> Pushed;
 
     // Takes numbers and whole arrays alone, and asks nothing of them.
-    safe fn coldlinch_refuse(
+    safe fn bench_refuse(
         count: u8,
         heads: &mut Heads,
         room: &mut Room,
@@ -40,7 +40,7 @@ unsafe extern "C" {
         code: u8,
     ) -> Pushed;
 
-    fn coldlinch_drain(
+    fn bench_drain(
         count: u8,
         heads: &Heads,
         room: &Room,
@@ -65,7 +65,7 @@ impl Queue for Ours {
         let (bytes, length) = (payload.as_ptr(), payload.len());
         // SAFETY: `bytes` and `length` are a slice that is lent for the call; the function has no `requires`.
         let pushed =
-            unsafe { coldlinch_confirm(*count, heads, room, functional, to, sid, bytes, length) };
+            unsafe { bench_confirm(*count, heads, room, functional, to, sid, bytes, length) };
         *count = pushed.count;
         pushed.result
     }
@@ -73,7 +73,7 @@ impl Queue for Ours {
     #[inline]
     fn refuse(&mut self, functional: bool, to: u32, sid: u8, code: u8) -> u8 {
         let Arrays { count, heads, room } = &mut self.0;
-        let pushed = coldlinch_refuse(*count, heads, room, functional, to, sid, code);
+        let pushed = bench_refuse(*count, heads, room, functional, to, sid, code);
         *count = pushed.count;
         pushed.result
     }
@@ -82,7 +82,7 @@ impl Queue for Ours {
     fn drain(&mut self, out: &mut [u8]) -> (u8, u8) {
         let Arrays { count, heads, room } = &mut self.0;
         // SAFETY: the pointer and the length are a slice that is lent for the call; the function has no `requires`.
-        let drained = unsafe { coldlinch_drain(*count, heads, room, out.as_mut_ptr(), out.len()) };
+        let drained = unsafe { bench_drain(*count, heads, room, out.as_mut_ptr(), out.len()) };
         *count = drained.count;
         (drained.result, drained.frames)
     }

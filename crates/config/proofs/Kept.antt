@@ -1,11 +1,11 @@
 -- What a configuration that keeps its numbers tells of its image, and when one that is given a row more keeps them.
-use Prim.Native.Nat.{ℕ, zero, suc, _+_, _*_, _^_, _≤_, _<_}
+use Prim.Native.Nat.{ℕ, _+_, _*_, _≤_, _<_}
 use mathlib.Core.Path.{_≡_, refl, ap, _∙_}
 use mathlib.Core.Bool.{Bool, true, false, _&&_}
 use mathlib.Core.List.{List, [], _∷_, _++_}
 use native.Mathlib.Omega.{arith}
-use lib.ListN.{length, getD, length-append}
-use lib.Dec.{leb, ltb}
+use lib.ListN.{length, length-append}
+use lib.Dec.{ltb}
 use borrow.Author.Tests.{leb-true, le-leb, lt-leb, lt-ltb, le-ltb}
 use native.Mathlib.Decide.{decLe}
 use native.Mathlib.Nat.{lt-of-not-le, mul-le-mul-right}
@@ -13,9 +13,9 @@ use Rattle.model.specs.Tests.{pick, all}
 use Rattle.model.proofs.Laws.{left, right}
 use Rattle.model.specs.Numbers.{maxSessions, maxServices, maxDids, maxLevels}
 use Rattle.model.specs.Config.{SessionConfig, ServiceConfig, DidConfig, SecurityLevelConfig, Config, within, tableWithin, sessionWithin, serviceWithin, didWithin, levelWithin}
-use Rattle.uds.specs.Table.{tab, column}
-use Rattle.config.specs.View.{listAt, sessionAt, serviceAt, didAt, levelAt, sessionCount, serviceCount, didCount, levelCount, configOf}
-use Rattle.config.specs.Build.{addSession, addService, addDid, addLevel, settled, overfull, overfullWords}
+use Rattle.uds.specs.Table.{tab}
+use Rattle.config.specs.View.{sessionAt, serviceAt, didAt, levelAt, sessionCount, serviceCount, didCount, levelCount, configOf}
+use Rattle.config.specs.Build.{addSession, addService, addDid, addLevel, settled, overfullWords}
 use Rattle.uds.proofs.Tab.{tab-length, next-row}
 
 -- a table that keeps its numbers has few rows

@@ -70,7 +70,7 @@ drained limit s b v h =
     let r = records (s .queue) in
     rw (v, valid-parts limit s v .queue, le-leb (length r) (length b) h)
     (record {
-      front = take-append-seam r (drop (length r) b);
+      front = take-append-seam r _;
       rest = drop-append-seam r (drop (length r) b);
       size = length-append r (drop (length r) b) ∙ omega (arith, length-drop (length r) b);
       counted = refl;

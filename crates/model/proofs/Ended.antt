@@ -11,8 +11,7 @@ use borrow.Author.Tests.{le-leb}
 use Rattle.model.specs.Numbers.{Moment, maxFrame, maxTime}
 use Rattle.model.specs.Config.{findSession, p2ExtOf}
 use Rattle.model.specs.Values.{Table, emptyTable}
-use Rattle.model.specs.Frame.{sidOf, negativeFrame}
-use Rattle.model.specs.State.{AddressMode, PendingRequest, State, Step, freshState, valid, withPending, received}
+use Rattle.model.specs.State.{AddressMode, PendingRequest, State, Step, freshState, valid, received}
 use Rattle.model.specs.Reply.{queued, confirmed, begun}
 use Rattle.model.specs.Request.{Request, Answer, heard, addressed, routed, request}
 use Rattle.model.specs.Pending.{completed, failed, complete, fail}
@@ -25,20 +24,6 @@ use Rattle.model.proofs.Open.{whole}
 use Rattle.model.proofs.Laws.{either}
 use Rattle.model.proofs.Leaves.Results.{timeOf}
 use Rattle.model.proofs.Leaves.{Ends, invalid, late, passes, ends}
-
--- a step that leaves a pending request, or none
-abbrev Pends : Option PendingRequest → Step → Type 0
-Pends o p = p .state .pending ≡ o
-
--- a frame queued leaves it as it is
-queued-pends : (s : State) (to : ℕ) (b : List ℕ) → Pends (s .pending) (queued s to b)
-unfolding queued
-queued-pends s to b = refl
-
--- and so does a positive payload, or 0x14 in its place
-confirmed-pends : (limit : ℕ) (s : State) (to sid : ℕ) (p : List ℕ) → Pends (s .pending) (confirmed limit s to sid p)
-unfolding confirmed
-confirmed-pends limit s to sid p = refl
 
 -- a call that ends a pending request
 abbrev pub Final : Call → Type 0
@@ -71,11 +56,11 @@ same-owed : {Moved : Type 0} {p : PendingRequest} {o : Option PendingRequest} �
 same-owed {p = p} e = record { request = p; there = e; dst = refl; sid = refl; deadline = inl refl }
 
 module _ (limit : ℕ) (p : PendingRequest) where
-  -- a request finds the server busy
+  -- a request finds the server busy: a frame queued leaves what is pending
   heard-owed : (s : State) (r : Request) (o : Option PendingRequest) → o ≡ some p → s .pending ≡ some p → heard limit s r o .step .state .pending ≡ some p
-  unfolding heard
+  unfolding heard queued
   heard-owed s r none e h = absurd (Option·none-ne-some p e)
-  heard-owed s r (some q) e h = queued-pends s (r .inbound .dst) (negativeFrame (sidOf (r .inbound .frame)) 0x21) ∙ h
+  heard-owed s r (some q) e h = h
 
   -- or is foreign
   routed-owed : (s : State) (r : Request) (o : Option AddressMode) → s .pending ≡ some p → routed limit s r o .step .state .pending ≡ some p
@@ -85,11 +70,11 @@ module _ (limit : ℕ) (p : PendingRequest) where
 
   -- the second step of a tick: only the deadline moves
   refreshed-owed : (s : State) (now : Moment) (o : Option PendingRequest) → o ≡ some p → s .pending ≡ some p → Owed (Unit {0}) p (refreshed s now o .state .pending)
-  unfolding refreshed begun queued
+  unfolding refreshed begun
   refreshed-owed s now none e h = absurd (Option·none-ne-some p e)
   refreshed-owed s now (some q) e h =
       either (λ (a : Step). Owed (Unit {0}) p (a .state .pending)) (leb (q .deadline) now)
-      (record { request = again; there = queued-pends (withPending s (some again)) (q .dst) (negativeFrame (q .sid) 0x78); dst = (cc); sid = (cc); deadline = inr tt })
+      (record { request = again; there = refl; dst = (cc); sid = (cc); deadline = inr tt })
       (same-owed h)
     where
       again : PendingRequest
@@ -128,17 +113,17 @@ module _ (limit : ℕ) (p : PendingRequest) where
 
 -- after complete or fail, of a valid state and at a time up to 2^48, nothing is pending, also where 3 follows
 pub ends-pending : (limit : ℕ) (s : State) (c : Call) → Final c → valid limit s ≡ true → timeOf c ≤ maxTime → call limit s c .state .pending ≡ none
-unfolding call complete fail completed failed
+unfolding call complete fail completed failed queued confirmed
 ends-pending limit s (completes now payload) f v t = rw (v, le-leb now maxTime t) (go (s .pending) refl)
   where
     go : (o : Option PendingRequest) → s .pending ≡ o → completed limit s payload o .state .pending ≡ none
     go none e = e
-    go (some p) e = confirmed-pends limit (withPending s none) (p .dst) (p .sid) payload
+    go (some p) e = refl
 ends-pending limit s (fails now code) f v t = rw (v, le-leb now maxTime t) (go (s .pending) refl)
   where
     go : (o : Option PendingRequest) → s .pending ≡ o → failed s code o .state .pending ≡ none
     go none e = e
-    go (some p) e = queued-pends (withPending s none) (p .dst) (negativeFrame (p .sid) code)
+    go (some p) e = refl
 ends-pending limit s (requests r) f v t = absurd f
 ends-pending limit s (questions i) f v t = absurd f
 ends-pending limit s (ticks now u) f v t = absurd f

@@ -1,12 +1,13 @@
 -- One law for each way out of a function.
 use Prim.Native.Nat.{ℕ, _+_, _^_, _≤_, _<_}
 use mathlib.Core.Path.{_≡_, refl, ap, ap₂, sym, _∙_}
-use mathlib.Core.Bool.{Bool, true, false}
+use mathlib.Core.Bool.{Bool, true, false, not}
 use mathlib.Core.List.{List}
 use mathlib.Core.Option.{some, none}
 use native.Mathlib.Omega.{arith}
-use lib.Dec.{eqb}
-use borrow.Author.Tests.{eqb-true, eqb-false, le-leb, lt-leb}
+use native.Mathlib.Decide.{decLe}
+use lib.Dec.{eqb, leb, ltb}
+use borrow.Author.Tests.{eqb-true, eqb-false, le-leb, lt-leb, lt-ltb, le-ltb}
 use Rattle.model.specs.Tests.{pick, place, all, without}
 use Rattle.model.specs.Numbers.{maxPeriodic}
 use Rattle.model.specs.Config.{tableWithin}
@@ -23,6 +24,10 @@ use Rattle.uds.proofs.Tab.{tab-same, tab-length}
 use Rattle.periodic.specs.declared.Registered.the-variants.{Stands, Full}
 use Rattle.periodic.specs.View.{entryAt, tableOf, advancedAt, Puts, Registers, Cancels, Advances}
 use Rattle.uds.proofs.Tables.{passing, enter-known, enter-new, enter-full}
+
+-- a moment that is not before another is at it or after it
+pub not-before : (t next : ℕ) → not (ltb t next) ≡ leb next t
+not-before t next = elim (decLe next t) [ yes p ↦ rw (le-ltb t next p, le-leb next t p) | no p ↦ rw (lt-ltb t next (omega arith), lt-leb next t (omega arith)) ]
 
 -- where a found entry stands
 module _ (w : List ℕ) (count x client : ℕ) (found : Found) (is : placeOf found ≡ place (isSubscription x client) (tableOf count w)) where

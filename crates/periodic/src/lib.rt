@@ -20,10 +20,6 @@ pub type Subscriptions = [u64; 64];
 
 const MAX_PERIODIC: u8 = 16;
 
-const MAX_SPAN: u64 = 0x1_0000_0000;
-
-const MAX_MOMENT: u64 = 0x1_0001_0000_0000;
-
 pub struct PeriodicEntry {
     pub identifier: u16,
     pub client: u32,
@@ -182,7 +178,7 @@ pub fn due(subs: &Subscriptions, count: u8, i: usize, t: Instant) -> bool
 {
     if i < count as usize {
         let e = entry_at(subs, i);
-        return e.next.0 <= t.0;
+        return !t.is_before(e.next);
     }
     false
 }
@@ -202,17 +198,14 @@ pub fn advance(subs: &mut Subscriptions, count: u8, i: usize, t: Instant)
     put(subs, i, e);
 }
 
-// An interval is a span below 2^32, and no moment exceeds 2^48 plus 2^32.
+// The interval is a span, and the moment one that a state may hold.
 fn entry_valid(e: PeriodicEntry) -> bool
     ensures { λ r. ⌜ r ≡ subscriptionValid (entryOf e) ⌝ }
 {
-    if MAX_SPAN <= e.interval.0 {
+    if !e.interval.within() {
         return false;
     }
-    if MAX_MOMENT < e.next.0 {
-        return false;
-    }
-    true
+    e.next.is_valid()
 }
 
 // At most sixteen entries stand, and each keeps the numbers.

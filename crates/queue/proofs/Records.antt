@@ -13,7 +13,7 @@ use Rattle.model.specs.Numbers.{maxFrame, maxOutbox}
 use Rattle.model.specs.Config.{tableWithin}
 use Rattle.model.specs.Frame.{Frame}
 use Rattle.model.specs.State.{frameValid}
-use Rattle.model.specs.Queue.{u16, u32, record1, records, drained, unmoved, written}
+use Rattle.model.specs.Queue.{u16, u32, record1, records, drained, unmoved}
 use Rattle.uds.specs.Table.{tab}
 use Rattle.uds.proofs.Tab.{tab-cons, tab-end, tab-length}
 use Rattle.queue.specs.Over.{over}

@@ -11,7 +11,7 @@ use queue::reply::Pushed;
 
 // A positive reply, made and queued as a service does it: the payload is put where it will wait, then it is said and answered.
 #[no_mangle]
-pub extern "C" fn coldlinch_confirm(
+pub extern "C" fn bench_confirm(
     count: u8,
     heads: &mut Heads,
     room: &mut Room,
@@ -29,7 +29,7 @@ pub extern "C" fn coldlinch_confirm(
 
 // A negative frame under the rule of functional requests.
 #[no_mangle]
-pub extern "C" fn coldlinch_refuse(
+pub extern "C" fn bench_refuse(
     count: u8,
     heads: &mut Heads,
     room: &mut Room,
@@ -45,7 +45,7 @@ pub extern "C" fn coldlinch_refuse(
 
 // The waiting frames as records in the lent buffer.
 #[no_mangle]
-pub extern "C" fn coldlinch_drain(count: u8, heads: &Heads, room: &Room, out: &mut [u8]) -> Drained
+pub extern "C" fn bench_drain(count: u8, heads: &Heads, room: &Room, out: &mut [u8]) -> Drained
     ensures { λ r. ⌜ drainOf r (now (heads .entry)) (now (room .entry)) (now (out .exit)) ≡ drained maxFrame (queueOf count (now (heads .entry)) (now (room .entry))) (now (out .entry)) ⌝ }
 {
     queue::drain::drain(count, heads, room, out)

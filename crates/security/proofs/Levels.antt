@@ -3,7 +3,7 @@ use Prim.Native.Nat.{ℕ, _+_, _*_, _≤_, _<_, min}
 use mathlib.Core.Path.{_≡_, refl, ap, ap₂, sym, _∙_}
 use mathlib.Core.Bool.{Bool, true, false, false≢true}
 use mathlib.Core.List.{List}
-use mathlib.Core.Option.{Option, some, none, Option·map, Option·none-ne-some, Option·some-ne-none}
+use mathlib.Core.Option.{Option, some, none, Option·map, Option·none-ne-some}
 use native.Mathlib.Decide.{decLe}
 use native.Mathlib.Omega.{arith}
 use lib.ListN.{length, getD, set, length-set}
@@ -12,14 +12,14 @@ use lib.Dec.{eqb, leb, ltb}
 use borrow.Author.Tests.{le-leb, lt-leb, le-ltb}
 use Rattle.model.specs.Tests.{pick, all, first, place, changeFirst, enter}
 use Rattle.model.specs.Numbers.{Moment, maxLevels}
-use Rattle.model.specs.State.{Failed, Lock, Security, withFailed, withLocks, lockValid, securityValid}
+use Rattle.model.specs.State.{Security, withFailed, withLocks, lockValid, securityValid}
 use Rattle.model.specs.Service27.{isFailed, isLock, holds, countOf, forget, raise, relock}
-use Rattle.uds.specs.Table.{tab, isKey, placeOf, Finds}
+use Rattle.uds.specs.Table.{tab, isKey, placeOf}
 use Rattle.uds.specs.declared.table.Found.{Found}
 use Rattle.uds.specs.declared.table.Found.the-variants.{At, Nothing}
-use Rattle.uds.proofs.Tab.{finds, place-same, tab-length, tab-same}
+use Rattle.uds.proofs.Tab.{finds, place-same, tab-length}
 use Rattle.uds.proofs.Tables.{any-some, change-none, change-at, enter-new, enter-full, passing}
-use Rattle.security.specs.View.{seedAt, rowAt, failedAt, lockAt, securityOf, placed, numberAt, listed, counted, lockedUntil, enteredOf, Puts, Enters, Resets}
+use Rattle.security.specs.View.{seedAt, rowAt, failedAt, lockAt, securityOf, placed, numberAt, listed, counted, lockedUntil, Puts, Enters, Resets}
 use Rattle.security.proofs.Words.{word-here, word-same, row-here, rows, failedPair, lockPair, seed-same, only-failed, only-locks}
 
 -- what a place in a list tells: the count is a list's, and the row stands in it

@@ -1,3 +1,5 @@
 pub mod Words
 pub mod Levels
-pub mod Bytes
+pub mod Storing
+pub mod Uses
+pub mod Settled

@@ -86,11 +86,11 @@ pub record Resets (before : List ℕ) (level : ℕ) (after : List ℕ) : Type 0 
   pub state : securityOf after ≡ forgotten (securityOf before) level
   pub seed : (i : ℕ) → seedAt after i ≡ seedAt before i
 
--- bytes stand from the seed's first place on, and every other word is as it was
-pub record Fills (before : List ℕ) (bytes : List ℕ) (n : ℕ) (after : List ℕ) : Type 0 where
-  pub put : (j : ℕ) → j < n → getD after (4 + j) 0 ≡ getD bytes j 0
-  pub below : (j : ℕ) → j < 4 → getD after j 0 ≡ getD before j 0
-  pub above : (j : ℕ) → 4 + n ≤ j → getD after j 0 ≡ getD before j 0
+-- the seed's bytes from one place to another are those of a list, 0 past its end, and every other word is as it was
+pub record Fills (before bytes : List ℕ) (from to : ℕ) (after : List ℕ) : Type 0 where
+  pub put : (j : ℕ) → from ≤ j → j < to → getD after (4 + j) 0 ≡ getD bytes j 0
+  pub below : (j : ℕ) → j < 4 + from → getD after j 0 ≡ getD before j 0
+  pub above : (j : ℕ) → 4 + to ≤ j → getD after j 0 ≡ getD before j 0
 
 -- no seed awaits its key, and no byte of it is left
 pub record Clears (before after : List ℕ) : Type 0 where

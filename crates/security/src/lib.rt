@@ -56,6 +56,7 @@ fn size(words: &[u64]) -> usize
     words.len()
 }
 
+// A byte as a word.
 fn wide(b: u8) -> u64
     ensures { λ r. ⌜ r ≡ b ⌝ }
 {
@@ -171,22 +172,10 @@ pub fn awaits(k: &Security, level: u8) -> bool
     k[SEED_LEVEL] == level as u64 && 1 <= k[SEED_LENGTH]
 }
 
-// All bytes of a seed overwritten.
-fn wipe(k: &mut Security)
-    ensures { λ r. ⌜ Fills (now (k .entry)) [] maxSeed (now (k .exit)) ⌝ }
-{
-    let words = size(k);
-    let mut i: usize = 0;
-    while i < MAX_SEED {
-        k[FIRST_BYTE + i] = 0;
-        i += 1;
-    }
-}
-
 // The bytes of a seed put in their places.
 fn fill(k: &mut Security, bytes: &[u8])
     requires { ⌜ length (now bytes) ≤ 32 ⌝ }
-    ensures { λ r. ⌜ Fills (now (k .entry)) (now (bytes .entry)) (length (now (bytes .entry))) (now (k .exit)) ⌝ }
+    ensures { λ r. ⌜ Fills (now (k .entry)) (now (bytes .entry)) 0 (length (now (bytes .entry))) (now (k .exit)) ⌝ }
 {
     let words = size(k);
     let n = bytes.len();
@@ -197,11 +186,24 @@ fn fill(k: &mut Security, bytes: &[u8])
     }
 }
 
+// The bytes after them overwritten.
+fn wipe(k: &mut Security, n: usize)
+    requires { ⌜ n ≤ 32 ⌝ }
+    ensures { λ r. ⌜ Fills (now (k .entry)) [] n maxSeed (now (k .exit)) ⌝ }
+{
+    let words = size(k);
+    let mut i = n;
+    while i < MAX_SEED {
+        k[FIRST_BYTE + i] = 0;
+        i += 1;
+    }
+}
+
 // No seed awaits its key, and no byte of it is left.
 pub fn clear(k: &mut Security)
     ensures { λ r. ⌜ Clears (now (k .entry)) (now (k .exit)) ⌝ }
 {
-    wipe(k);
+    wipe(k, 0);
     let words = size(k);
     k[SEED_LENGTH] = 0;
     k[SEED_LEVEL] = 0;
@@ -220,12 +222,13 @@ pub fn settle(k: &mut Security, clears: bool)
 pub fn seed(k: &mut Security, level: u8, bytes: &[u8])
     ensures { λ r. ⌜ Seeds (now (k .entry)) level (now (bytes .entry)) (now (k .exit)) ⌝ }
 {
-    clear(k);
     let n = bytes.len();
     if MAX_SEED < n {
+        clear(k);
         return;
     }
     fill(k, bytes);
+    wipe(k, n);
     let words = size(k);
     k[SEED_LENGTH] = n as u64;
     k[SEED_LEVEL] = level as u64;

@@ -12,7 +12,7 @@ use Rattle.model.specs.Config as Model
 use Rattle.model.specs.Values as Values
 use Rattle.uds.specs.Table.{placeOf, Finds}
 use Rattle.uds.specs.Rows.{sessionOf}
-use Rattle.uds.specs.Values.{outcomeOf, Says}
+use Rattle.uds.specs.Values.{Says}
 use Rattle.uds.specs.declared.clock.Instant.{Instant}
 use Rattle.uds.specs.declared.clock.Duration.{Duration}
 use Rattle.uds.specs.declared.frame.TwoBytes.{TwoBytes}

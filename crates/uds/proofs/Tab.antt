@@ -14,7 +14,7 @@ use lib.Dec.{eqb}
 use Rattle.model.specs.Tests.{pick, memb, place, first, examined, all}
 use Rattle.uds.specs.declared.table.Found.{Found}
 use Rattle.uds.specs.declared.table.Found.the-variants.{At, Nothing}
-use Rattle.uds.specs.Table.{tab, column, isKey, placeOf, rowOf, examinedOf, Finds, InWords}
+use Rattle.uds.specs.Table.{tab, isKey, placeOf, rowOf, examinedOf, Finds, InWords}
 
 module _ {B : Type 0} (f : ℕ → B) (m i : ℕ) where
   pub tab-cons : i < m → tab f i (m - i) ≡ f i ∷ tab f (i + 1) (m - (i + 1))

@@ -23,6 +23,10 @@ column w from step i = getD w (from + i * step) 0
 abbrev pub isKey : ℕ → ℕ → Bool
 isKey x y = eqb y x
 
+-- where the first of n rows stands whose word is the key
+abbrev pub keyPlace : List ℕ → ℕ → ℕ → ℕ → ℕ → Option ℕ
+keyPlace w from step n key = place (isKey key) (tab (column w from step) 0 n)
+
 -- n rows end in `len` words, and the first begins there
 pub record InWords (len from step n : ℕ) : Type 0 where
   pub begins : from < len

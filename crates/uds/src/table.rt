@@ -2,10 +2,9 @@
 ghost use mathlib.Core.Path.{_≡_};
 ghost use mathlib.Core.Bool.{true};
 ghost use lib.ListN.{getD, length};
-ghost use Rattle.model.specs.Tests.{place};
-ghost use Rattle.uds.specs.Table.{tab, column, isKey, placeOf, examinedOf, InWords};
+ghost use Rattle.uds.specs.Table.{column, keyPlace, placeOf, examinedOf, InWords};
 
-// Rows and words in a row that are looked through without a test for each.
+// Fewer rows, and fewer words in a row, than this are asked whether they stand in the words.
 const FEW: usize = 0x1_0000_0000;
 
 // What a lookup answers: the number of the first row that has the key, counted from 0.
@@ -54,7 +53,7 @@ pub fn cell(words: &[u32], from: usize, step: usize, i: usize) -> u32
     word(words, from + i * step)
 }
 
-// The word of each of `rows` rows stands in the words. Row numbers and steps from 2^32 on are not looked at, so that the product fits.
+// All of `rows` rows stand in the words. From 2^32 rows or words in a row on it is not asked, so that the product fits.
 fn in_words(len: usize, from: usize, step: usize, rows: usize) -> bool
     ensures { λ r. ⌜ (r ≡ true → InWords len from step rows) ⌝ }
 {
@@ -70,10 +69,10 @@ fn in_words(len: usize, from: usize, step: usize, rows: usize) -> bool
     rows * step <= len - from
 }
 
-// The first of `rows` rows whose word is the key, where all stand in the words: no place is tested.
+// The first of `rows` rows whose word is the key, where all of them stand in the words: no row needs a test of its place.
 fn walk(words: &[u32], from: usize, step: usize, rows: usize, key: u32) -> Found
     requires { ⌜ InWords (length (now words)) from step rows ⌝ }
-    ensures { λ r. ⌜ placeOf r ≡ place (isKey key) (tab (column (now (words .entry)) from step) 0 rows) ⌝ }
+    ensures { λ r. ⌜ placeOf r ≡ keyPlace (now (words .entry)) from step rows key ⌝ }
 {
     let mut at = from;
     let mut i: usize = 0;
@@ -89,21 +88,21 @@ fn walk(words: &[u32], from: usize, step: usize, rows: usize, key: u32) -> Found
 
 // The same, wherever the rows stand.
 fn walk_past(words: &[u32], from: usize, step: usize, rows: usize, key: u32) -> Found
-    ensures { λ r. ⌜ placeOf r ≡ place (isKey key) (tab (column (now (words .entry)) from step) 0 rows) ⌝ }
+    ensures { λ r. ⌜ placeOf r ≡ keyPlace (now (words .entry)) from step rows key ⌝ }
 {
-    let mut i: usize = 0;
-    while i < rows {
-        if cell(words, from, step, i) == key {
-            return Found::At(i);
+    let mut row: usize = 0;
+    while row < rows {
+        if cell(words, from, step, row) == key {
+            return Found::At(row);
         }
-        i += 1;
+        row += 1;
     }
     Found::Nothing
 }
 
 // The first of `rows` rows whose word is the key.
 pub fn find(words: &[u32], from: usize, step: usize, rows: usize, key: u32) -> Found
-    ensures { λ r. ⌜ placeOf r ≡ place (isKey key) (tab (column (now (words .entry)) from step) 0 rows) ⌝ }
+    ensures { λ r. ⌜ placeOf r ≡ keyPlace (now (words .entry)) from step rows key ⌝ }
 {
     if in_words(words.len(), from, step, rows) {
         return walk(words, from, step, rows, key);

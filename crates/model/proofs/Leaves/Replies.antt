@@ -1,21 +1,21 @@
 -- What a reply leaves, and what result 3 means: a frame is to be queued and 16 are held.
-use Prim.Native.Nat.{ℕ, suc, _+_, _≤_}
+use Prim.Native.Nat.{ℕ, suc, _≤_}
 use mathlib.Core.Path.{_≡_, refl, ap}
 use mathlib.Core.Bool.{Bool, true, false}
 use mathlib.Core.Logic.{_↔_}
 use mathlib.Core.List.{List, [], _∷_, _++_}
-use mathlib.Core.Option.{Option, some}
+use mathlib.Core.Option.{Option}
 use native.Mathlib.Omega.{arith}
 use lib.ListN.{length}
 use lib.Dec.{leb, ltb, eqb}
 use borrow.Author.Tests.{ltb-false, le-ltb}
 use Rattle.model.specs.Tests.{pick, memb}
 use Rattle.model.specs.Numbers.{Moment, maxOutbox}
-use Rattle.model.specs.Config.{Config, findSession, p2ExtOf}
+use Rattle.model.specs.Config.{Config}
 use Rattle.model.specs.State.{AddressMode, physical, functional, Session, Security, Subscription, PendingRequest, State, Step, step, withPending}
 use Rattle.model.specs.Queue as Queue
 use Rattle.model.specs.Queue.{QueueStep, Reply, silent, positive, negative, always, pends, leaves, pushed, withheld, refused, answered}
-use Rattle.model.specs.Reply.{taken, queued, confirmed, begun, replied}
+use Rattle.model.specs.Reply.{taken, queued, confirmed, awaiting, begun, replied}
 use Rattle.model.specs.Frame.{positiveFrame, negativeFrame}
 use Rattle.model.specs.Values.{bytes}
 use Rattle.model.specs.Service.{Seen, Effect, changed, changedAfter, apply}
@@ -118,10 +118,7 @@ pending-answered s q p a = record { result = a .result; full = a .full; config =
 -- a request that becomes pending
 pub begun-answered : (s : State) (to sid : ℕ) (now : Moment) → Answered s (begun s to sid now)
 unfolding queued begun
-begun-answered s to sid now = pending-answered s p (queued (withPending s p) to (negativeFrame sid 0x78)) (queued-answered (withPending s p) to (negativeFrame sid 0x78))
-  where
-    p : Option PendingRequest
-    p = some (record { dst = to; sid = sid; deadline = now + p2ExtOf (findSession (s .config) (s .session .sessionType)) })
+begun-answered s to sid now = pending-answered s (awaiting s to sid now .pending) (begun s to sid now) (queued-answered (awaiting s to sid now) to (negativeFrame sid 0x78))
 
 -- and any reply
 pub replied-answered : (limit : ℕ) (s : State) (to sid : ℕ) (now : Moment) (r : Reply) → Answered s (replied limit s to sid now r)

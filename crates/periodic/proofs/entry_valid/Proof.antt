@@ -1,18 +1,20 @@
-use Prim.Native.Nat.{_+_}
-use native.Mathlib.Omega.{arith}
-use borrow.Author.Tests.{lt-ltb, le-ltb, le-leb, lt-leb}
-use Rattle.model.specs.Numbers.{maxTime, maxSpan}
+use mathlib.Core.Path.{sym, _∙_}
+use borrow.Author.Tests.{not-true, not-false}
+use borrow.Author.Needs.{needs}
 use Rattle.periodic.proofs.entry_valid.Statement.{statement}
 use Rattle.periodic.proofs.entry_valid.Tie as tie
 
+within-requires : tie.Need-within-requires
+within-requires c κs = search needs
+
 returns : tie.Need-returns
-returns c = let e = c .before .before .args .e in rw (le-ltb (e .interval .0) maxSpan (omega arith))
+returns c = rw (sym (c .before .within .ensures) ∙ not-true _ (c .if1 .taken))
+
+is-valid-requires : tie.Need-is-valid-requires
+is-valid-requires c κs = search needs
 
 returns-2 : tie.Need-returns-2
-returns-2 c = let e = c .before .before .before .before .args .e in rw (lt-ltb (e .interval .0) maxSpan (omega arith), lt-leb (e .next .0) (maxTime + maxSpan) (omega arith))
-
-returns-3 : tie.Need-returns-3
-returns-3 c = let e = c .before .before .before .before .args .e in rw (lt-ltb (e .interval .0) maxSpan (omega arith), le-leb (e .next .0) (maxTime + maxSpan) (omega arith))
+returns-2 c = c .is-valid .ensures ∙ rw (sym (c .before .before .within .ensures) ∙ not-false _ (c .before .if1 .left))
 
 pub entry-valid-spec : {M : Type 1} → statement M
-entry-valid-spec = tie.close (tie.spec returns returns-2 returns-3)
+entry-valid-spec = tie.close (tie.spec within-requires returns is-valid-requires returns-2)

@@ -1,5 +1,5 @@
 use denote.Ref.{now}
-use Rattle.security.proofs.Bytes.{cleared-all}
+use Rattle.security.proofs.Storing.{cleared-all}
 use borrow.Author.Needs.{needs}
 use Rattle.security.proofs.clear.Statement.{statement}
 use Rattle.security.proofs.clear.Tie as tie

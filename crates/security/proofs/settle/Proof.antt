@@ -1,5 +1,5 @@
 use denote.Ref.{now}
-use Rattle.security.proofs.Bytes.{settled-cleared, settled-kept}
+use Rattle.security.proofs.Storing.{settled-cleared, settled-kept}
 use borrow.Author.Needs.{needs}
 use Rattle.security.proofs.settle.Statement.{statement}
 use Rattle.security.proofs.settle.Tie as tie

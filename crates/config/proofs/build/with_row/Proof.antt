@@ -59,7 +59,7 @@ add-grown c = let a = c .before .before .before .before .before .before .before 
 grown-requires : tie.Need-grown-requires
 grown-requires c κs =
     let a = c .before .before .before .before .before .before .before .before .args in
-    (omega arith, omega (arith, c .before .before .before .before .before .word .ensures), room-for (c .before .before .before .before .before .word .result) (a .most) (a .from) (a .step) (length (now (a .row))) (omega arith) (omega arith) (omega arith))
+    (omega arith, omega (arith, c .before .before .before .before .before .word .ensures), omega (arith, room-for (c .before .before .before .before .before .word .result) (a .most) (a .from) (a .step) (length (now (a .row))) (omega arith) (omega arith) (omega arith)))
 
 returns-4 : tie.Need-returns-4
 returns-4 c =

@@ -8,13 +8,13 @@ use denote.Ref.{now}
 use borrow.Author.Tests.{eq-eqb, ne-eqb}
 use borrow.Author.Needs.{needs}
 use Rattle.model.specs.Tests.{place}
-use Rattle.uds.specs.Table.{tab, column, isKey}
+use Rattle.uds.specs.Table.{tab, column, isKey, keyPlace}
 use Rattle.uds.proofs.Tab.{placeFrom, counted, tab-all, over, hit, miss, next-row, next-in, stands-in}
 use Rattle.uds.proofs.table.walk.Statement.{statement}
 use Rattle.uds.proofs.table.walk.Tie as tie
 
 abbrev Inv-loop : tie.InvT-loop
-Inv-loop words from step rows key at₀ i₀ at i = (i ≤ rows) × (at ≡ from + i * step) × (place (isKey key) (tab (column words from step) 0 rows) ≡ placeFrom (isKey key) (tab (column words from step) i (rows - i)) i)
+Inv-loop words from step rows key at₀ i₀ at i = (i ≤ rows) × (at ≡ from + i * step) × (keyPlace words from step rows key ≡ placeFrom (isKey key) (tab (column words from step) i (rows - i)) i)
 
 abbrev μ-loop : tie.MeasureT-loop
 μ-loop words from step rows key at₀ i₀ at i = rows - i

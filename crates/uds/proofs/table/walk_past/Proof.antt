@@ -6,16 +6,16 @@ use denote.Ref.{now}
 use borrow.Author.Tests.{eq-eqb, ne-eqb}
 use borrow.Author.Needs.{needs}
 use Rattle.model.specs.Tests.{place}
-use Rattle.uds.specs.Table.{tab, column, isKey}
+use Rattle.uds.specs.Table.{tab, column, isKey, keyPlace}
 use Rattle.uds.proofs.Tab.{placeFrom, counted, tab-all, over, hit, miss}
 use Rattle.uds.proofs.table.walk_past.Statement.{statement}
 use Rattle.uds.proofs.table.walk_past.Tie as tie
 
 abbrev Inv-loop : tie.InvT-loop
-Inv-loop words from step rows key i₀ i = (i ≤ rows) × (place (isKey key) (tab (column words from step) 0 rows) ≡ placeFrom (isKey key) (tab (column words from step) i (rows - i)) i)
+Inv-loop words from step rows key row₀ row = (row ≤ rows) × (keyPlace words from step rows key ≡ placeFrom (isKey key) (tab (column words from step) row (rows - row)) row)
 
 abbrev μ-loop : tie.MeasureT-loop
-μ-loop words from step rows key i₀ i = rows - i
+μ-loop words from step rows key row₀ row = rows - row
 
 loop-holds : tie.Need-loop-holds Inv-loop μ-loop
 loop-holds c =
@@ -30,10 +30,10 @@ returns : tie.Need-returns Inv-loop μ-loop
 returns c =
     let a = c .before .before .before .before .before .args in
     let l = c .before .before .before .loop in
-    hit (column (now (a .words)) (a .from) (a .step)) (isKey (a .key)) (a .rows) (l .i) _ (l .inv .1) (omega arith) (eq-eqb _ _ (sym (c .before .cell .ensures) ∙ c .if1 .taken))
+    hit (column (now (a .words)) (a .from) (a .step)) (isKey (a .key)) (a .rows) (l .row) _ (l .inv .1) (omega arith) (eq-eqb _ _ (sym (c .before .cell .ensures) ∙ c .if1 .taken))
 
-add-i : tie.Need-add-i Inv-loop μ-loop
-add-i c = search needs
+add-row : tie.Need-add-row Inv-loop μ-loop
+add-row c = search needs
 
 loop-less : tie.Need-loop-less Inv-loop μ-loop
 loop-less c = search needs
@@ -42,13 +42,13 @@ loop-again : tie.Need-loop-again Inv-loop μ-loop
 loop-again c =
     let a = c .before .before .before .before .before .args in
     let l = c .before .before .before .loop in
-    (omega arith, miss (column (now (a .words)) (a .from) (a .step)) (isKey (a .key)) (a .rows) (l .i) _ (l .inv .1) (omega arith) (ne-eqb _ _ (λ e. c .if1 .left (c .before .cell .ensures ∙ e))))
+    (omega arith, miss (column (now (a .words)) (a .from) (a .step)) (isKey (a .key)) (a .rows) (l .row) _ (l .inv .1) (omega arith) (ne-eqb _ _ (λ e. c .if1 .left (c .before .cell .ensures ∙ e))))
 
 returns-2 : tie.Need-returns-2 Inv-loop μ-loop
 returns-2 c =
     let a = c .before .before .before .args in
     let l = c .before .loop in
-    over (column (now (a .words)) (a .from) (a .step)) (isKey (a .key)) (a .rows) (l .i) _ (l .inv .1) (omega arith)
+    over (column (now (a .words)) (a .from) (a .step)) (isKey (a .key)) (a .rows) (l .row) _ (l .inv .1) (omega arith)
 
 pub walk-past-spec : {M : Type 1} → statement M
 walk-past-spec =
@@ -59,7 +59,7 @@ walk-past-spec =
     loop-holds
     cell-requires
     returns
-    add-i
+    add-row
     loop-less
     loop-again
     returns-2)
