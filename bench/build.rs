@@ -1,9 +1,11 @@
-//! Links the static library that `rt staticlib queue_bench` wrote.
+//! Links the static libraries that `rt staticlib` wrote.
 
 fn main() {
     let root = std::env::var("CARGO_MANIFEST_DIR").expect("cargo says where the project lies");
-    let library = format!("{root}/../target/staticlib");
-    println!("cargo:rustc-link-search=native={library}");
-    println!("cargo:rustc-link-lib=static=queue_bench");
-    println!("cargo:rerun-if-changed={library}/libqueue_bench.a");
+    let folder = format!("{root}/../target/staticlib");
+    println!("cargo:rustc-link-search=native={folder}");
+    for library in ["queue_bench", "state_bench"] {
+        println!("cargo:rustc-link-lib=static={library}");
+        println!("cargo:rerun-if-changed={folder}/lib{library}.a");
+    }
 }

@@ -4,10 +4,10 @@ use std::hint::black_box;
 
 use crate::queue::Queue;
 
-/// An operation that leaves the queue as it found it, and what stands before the first one.
+/// An operation that can be run again and again, and what it begins with.
 pub struct Case<Q> {
     pub name: &'static str,
-    pub ready: fn(&mut Q),
+    pub made: fn() -> Q,
     pub run: fn(&mut Q, &mut [u8]),
     /// The length of the lent buffer.
     pub lent: usize,
@@ -22,8 +22,6 @@ const ROOMY: usize = 16 * (8 + 256);
 
 /// A byte less than sixteen records of six bytes each.
 const TIGHT: usize = 16 * (8 + 6) - 1;
-
-fn nothing<Q>(_: &mut Q) {}
 
 fn negative<Q: Queue>(queue: &mut Q) {
     black_box(queue.refuse(black_box(false), TO, 0x22, black_box(0x31)));
@@ -43,6 +41,12 @@ fn sixteen<Q: Queue>(queue: &mut Q) {
     }
 }
 
+fn sixteen_wait<Q: Queue>() -> Q {
+    let mut queue = Q::new();
+    sixteen(&mut queue);
+    queue
+}
+
 fn drain<Q: Queue>(queue: &mut Q, out: &mut [u8]) {
     black_box(queue.drain(black_box(out)));
 }
@@ -51,7 +55,7 @@ fn drain<Q: Queue>(queue: &mut Q, out: &mut [u8]) {
 pub fn timed<Q: Queue>() -> Vec<Case<Q>> {
     let case = |name, run| Case {
         name,
-        ready: nothing,
+        made: Q::new,
         run,
         lent: ROOMY,
     };
@@ -74,7 +78,7 @@ pub fn timed<Q: Queue>() -> Vec<Case<Q>> {
         }),
         Case {
             name: "drain of 16 refused by 5",
-            ready: sixteen,
+            made: sixteen_wait,
             run: drain,
             lent: TIGHT,
         },
@@ -83,17 +87,17 @@ pub fn timed<Q: Queue>() -> Vec<Case<Q>> {
 
 /// Single calls, each on a queue made ready for it.
 pub fn calls<Q: Queue>() -> Vec<Case<Q>> {
-    let case = |name, ready, run| Case {
+    let case = |name, made, run| Case {
         name,
-        ready,
+        made,
         run,
         lent: ROOMY,
     };
     vec![
-        case("push of a negative frame", nothing, |q, _| negative(q)),
-        case("push of a positive frame of 6", nothing, |q, _| short(q)),
-        case("push of a positive frame of 256", nothing, |q, _| long(q)),
-        case("drain of 16 frames of 6", sixteen, drain),
+        case("push of a negative frame", Q::new, |q, _| negative(q)),
+        case("push of a positive frame of 6", Q::new, |q, _| short(q)),
+        case("push of a positive frame of 256", Q::new, |q, _| long(q)),
+        case("drain of 16 frames of 6", sixteen_wait, drain),
     ]
 }
 

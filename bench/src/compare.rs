@@ -10,7 +10,7 @@ use crate::queue::{Arrays, PLACES, Queue};
 
 pub type Verdict = Result<(), String>;
 
-fn same<T: PartialEq + std::fmt::Debug>(what: &str, ours: T, other: T) -> Verdict {
+pub fn same<T: PartialEq + std::fmt::Debug>(what: &str, ours: T, other: T) -> Verdict {
     if ours == other {
         return Ok(());
     }
@@ -18,7 +18,7 @@ fn same<T: PartialEq + std::fmt::Debug>(what: &str, ours: T, other: T) -> Verdic
 }
 
 /// Count, heads and bytes of the frames that are seen. Bytes of a free place are not: nothing reads them.
-fn same_queue(ours: &Arrays, plain: &Arrays) -> Verdict {
+pub fn same_queue(ours: &Arrays, plain: &Arrays) -> Verdict {
     same("count", ours.count, plain.count)?;
     let heads = 2 * usize::from(ours.count).min(PLACES);
     same("heads", &ours.heads[..heads], &plain.heads[..heads])?;

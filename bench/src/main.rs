@@ -4,6 +4,7 @@
 //!   bench stack              bytes of stack per call
 //!   bench cases              the names of the cases, in order
 //!   bench count SIDE CASE N  runs a case N times, to be counted by valgrind
+//!   bench state ..           the same of the state: `state/mod.rs`
 
 mod cases;
 mod compare;
@@ -13,6 +14,7 @@ mod plain;
 mod published;
 mod queue;
 mod stack;
+mod state;
 mod timing;
 
 use std::process::ExitCode;
@@ -108,6 +110,7 @@ fn main() -> ExitCode {
                 return ExitCode::FAILURE;
             }
         },
+        ["state", ref rest @ ..] => return state::run(rest),
         ["time"] => times(),
         ["stack"] => stacks(),
         ["cases"] => {
@@ -119,7 +122,7 @@ fn main() -> ExitCode {
         ["count", "1", case, n] => run::<Published>(number(case) as usize, number(n)),
         ["count", "2", case, n] => run::<Plain>(number(case) as usize, number(n)),
         _ => {
-            println!("bench compare | time | stack | cases | count SIDE CASE N");
+            println!("bench compare | time | stack | cases | count SIDE CASE N | state ..");
             return ExitCode::from(2);
         }
     }

@@ -5,7 +5,6 @@ use std::arch::asm;
 use std::hint::black_box;
 
 use crate::cases::Case;
-use crate::queue::Queue;
 
 const PATTERN: u64 = 0xC01D_11C4_C01D_11C4;
 const WORDS: usize = 1 << 17;
@@ -44,11 +43,10 @@ fn depth<Q>(job: &mut Job<Q>) -> usize {
     top - stack.as_ptr() as usize - 8 * untouched.count()
 }
 
-fn deepest<Q: Queue>(case: &Case<Q>, run: fn(&mut Q, &mut [u8])) -> usize {
+fn deepest<Q>(case: &Case<Q>, run: fn(&mut Q, &mut [u8])) -> usize {
     let once = |_| {
-        let mut queue = Box::new(Q::new());
+        let mut queue = Box::new((case.made)());
         let mut out = vec![0; case.lent];
-        (case.ready)(&mut queue);
         depth(&mut Job {
             run,
             queue: &mut *queue,
@@ -61,6 +59,6 @@ fn deepest<Q: Queue>(case: &Case<Q>, run: fn(&mut Q, &mut [u8])) -> usize {
 
 /// Bytes of stack below the caller: arguments on the stack, return address, and the frames of all that is called. What the way there
 /// takes is left out.
-pub fn of<Q: Queue>(case: &Case<Q>) -> usize {
+pub fn of<Q>(case: &Case<Q>) -> usize {
     deepest(case, case.run) - deepest(case, |_, _| {})
 }

@@ -4,7 +4,6 @@ use std::hint::black_box;
 use std::time::Instant;
 
 use crate::cases::Case;
-use crate::queue::Queue;
 
 const RUNS: u32 = 500;
 
@@ -16,10 +15,9 @@ pub struct Bench<Q> {
     rounds: Vec<f64>,
 }
 
-impl<Q: Queue> Bench<Q> {
+impl<Q> Bench<Q> {
     pub fn new(case: Case<Q>) -> Self {
-        let mut queue = Box::new(Q::new());
-        (case.ready)(&mut queue);
+        let queue = Box::new((case.made)());
         let out = vec![0; case.lent];
         Self {
             case,

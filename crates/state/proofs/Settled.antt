@@ -17,8 +17,9 @@ use Rattle.uds.proofs.Tab.{tab-length}
 use Rattle.queue.specs.View.{frameAt, queueOf, modeOf}
 use Rattle.periodic.specs.View.{entryAt}
 use Rattle.security.specs.View.{seedAt, ClearsIf}
-use Rattle.state.specs.View.{sessionOf, pendingOf, beside, stateOf, stepOf}
+use Rattle.state.specs.View.{sessionOf, pendingOf, beside, stateOf, stepOf, Applies}
 use Rattle.state.specs.declared.apply.Answer as Applied
+use Rattle.state.specs.declared.apply.Effect.{Effect}
 use Rattle.state.specs.declared.apply.Said.{Said}
 use Rattle.state.specs.declared.PendingRequest.{PendingRequest}
 use Rattle.state.specs.declared.SessionState.{SessionState}
@@ -142,22 +143,26 @@ cleared-alike : (clears : Bool) (k k' k'' : List ℕ) → ClearsIf k clears k' �
 cleared-alike true k k' k'' a b i = a .overwritten refl i ∙ sym (b .overwritten refl i)
 cleared-alike false k k' k'' a b i = ap (λ (w : List ℕ). seedAt w i) (a .kept refl ∙ sym (b .kept refl))
 
+module _ (config : List ℕ) (s : State) (k heads room : List ℕ) (to sid t : ℕ) (functional : Bool) (w : Effect) (x y : Applied.Answer) (k' k'' heads' heads'' room' room'' : List ℕ) (p : Applies config s k heads room to sid t functional w x k' heads' room') (q : Applies config s k heads room to sid t functional w y k'' heads'' room'') where
+  alike : (subs : List ℕ) → stepOf config x k' subs heads' room' ≡ stepOf config y k'' subs heads'' room''
+  alike subs = said (p .step subs) (q .step subs)
+
+  same-result : x .result ≡ y .result
+  same-result = ap (λ (m : Step). m .result) (alike [])
+
+  abbrev clears : ℕ → Bool
+  clears n = pick (w .waits) (eqb n 0) true && w .«clears_seed»
+
+  pub applied-settled : SameAnswer config x y k' k'' heads' heads'' room' room''
+  applied-settled = record {
+    result = same-result;
+    state = state (x .state) (y .state) config config k' k'' [] [] heads' heads'' room' room'' (ap (λ (m : Step). m .state) (alike []));
+    seen = alike;
+    seed = cleared-alike (clears (x .result)) k k' k'' (p .words) (rw (ap clears (sym same-result)) at (q .words));
+  }
+
 pub apply-settled : (κs : _) (a : _) → Settles (apply.Post κs a) (λ x e y f. SameAnswer (now (a .0)) x y (now (e .1 .1 .0)) (now (f .1 .1 .0)) (now (e .1 .1 .1 .0)) (now (f .1 .1 .1 .0)) (now (e .1 .1 .1 .1 .0)) (now (f .1 .1 .1 .1 .0)))
-apply-settled κs a x e y f p q = record {
-  result = same-result;
-  state = state (x .state) (y .state) (now (a .0)) (now (a .0)) (now (e .1 .1 .0)) (now (f .1 .1 .0)) [] [] (now (e .1 .1 .1 .0)) (now (f .1 .1 .1 .0)) (now (e .1 .1 .1 .1 .0)) (now (f .1 .1 .1 .1 .0)) (ap (λ (m : Step). m .state) (z []));
-  seen = z;
-  seed = cleared-alike (clears (x .result)) (now (a .1 .1 .0)) (now (e .1 .1 .0)) (now (f .1 .1 .0)) (p .words) (rw (ap clears (sym same-result)) at (q .words));
-}
-  where
-    z : (subs : List ℕ) → stepOf (now (a .0)) x (now (e .1 .1 .0)) subs (now (e .1 .1 .1 .0)) (now (e .1 .1 .1 .1 .0)) ≡ stepOf (now (a .0)) y (now (f .1 .1 .0)) subs (now (f .1 .1 .1 .0)) (now (f .1 .1 .1 .1 .0))
-    z subs = said (p .step subs) (q .step subs)
-
-    same-result : x .result ≡ y .result
-    same-result = ap (λ (m : Step). m .result) (z [])
-
-    clears : ℕ → Bool
-    clears n = pick (a .1 .1 .1 .1 .1 .1 .1 .1 .1 .0 .waits) (eqb n 0) true && a .1 .1 .1 .1 .1 .1 .1 .1 .1 .0 .«clears_seed»
+apply-settled κs a x e y f p q = applied-settled _ _ _ _ _ _ _ _ _ _ x y _ _ _ _ _ _ p q
 
 pub is-valid-settled : (κs : _) (a : _) → Settles (is-valid.Post κs a) Answer
 is-valid-settled κs a x e y f p q = said p q
