@@ -2,7 +2,7 @@
 -- crate of services cites them; then come the functions of this crate.
 use Prim.Native.Nat.{ℕ}
 use mathlib.Core.Path.{_≡_, ap, sym, _∙_}
-use mathlib.Core.List.{List, []}
+use mathlib.Core.List.{List, [], _++_}
 use denote.Ref.{now}
 use Rattle.model.specs.Config.{emptyConfig}
 use Rattle.model.specs.Values as Values
@@ -15,7 +15,7 @@ use Rattle.uds.proofs.Settled.{said}
 use Rattle.queue.specs.View.{queueOf, replyOf}
 use Rattle.queue.specs.declared.reply.Reply.{Reply}
 use Rattle.state.specs.View.{effectOf}
-use Rattle.service.specs.Act.{partOf, actOf, askedOf, Asked, outcomeOf}
+use Rattle.service.specs.Act.{partOf, actOf, askedOf, Asked, outcomeOf, actedReply}
 use Rattle.service.specs.Seen.{Replies, Speaks, Serves}
 use Rattle.service.specs.declared.Ask.{Ask}
 use Rattle.service.specs.declared.Ask.the-variants.{Refused, Asks}
@@ -25,6 +25,7 @@ use Rattle.service.specs.declared.Wanted.{Wanted}
 use Rattle.service.proofs.Act.none.Reads as none
 use Rattle.service.proofs.Part.of.Reads as part-of
 use Rattle.service.proofs.acted.Reads as acted
+use Rattle.service.proofs.answered.Reads as answered
 use Rattle.service.proofs.first.Reads as first
 use Rattle.service.proofs.joined.Reads as joined
 use Rattle.service.proofs.outcome.Reads as outcome
@@ -107,3 +108,13 @@ joined-settled κs a x e y f p q = same-reply p q
 
 pub acted-settled : (κs : _) (a : _) → Settles (acted.Post κs a) (λ x e y f. SameReply (a .0) x y (now (e .1 .1 .1 .1 .1 .0)) (now (f .1 .1 .1 .1 .1 .0)))
 acted-settled κs a x e y f p q = same-reply p q
+
+-- of a service that answers just this
+pub answered-settled : (κs : _) (a : _) → Settles (answered.Post κs a) (λ x e y f. SameSpoken (a .1 .0) x y (now (e .1 .1 .1 .1 .1 .1 .0)) (now (f .1 .1 .1 .1 .1 .1 .0)))
+answered-settled κs a x e y f p q = same-spoken (p serve later blank (record { asked = λ i. serve blank }) (λ i. later blank)) (q serve later blank (record { asked = λ i. serve blank }) (λ i. later blank))
+  where
+    later : Seen → Rules.Effect
+    later v = Rules.says v (actedReply (a .1 .1 .0) (a .1 .1 .1 .0) (now (a .1 .1 .1 .1 .0) ++ now (a .1 .1 .1 .1 .1 .0)))
+
+    serve : Seen → Served
+    serve v = askedOf (a .0) v (later v)

@@ -7,9 +7,10 @@ ghost use Rattle.model.specs.Values as Values;
 ghost use Rattle.model.specs.Queue.{positive};
 ghost use Rattle.model.specs.Reply as Rules;
 ghost use Rattle.model.specs.Service as Service;
+ghost use Rattle.model.specs.Service.{Seen, Served};
 ghost use Rattle.queue.specs.View.{replyOf};
-ghost use Rattle.service.specs.Act.{partOf, actOf, outcomeOf, actedReply};
-ghost use Rattle.service.specs.Seen.{saysOf, Replies};
+ghost use Rattle.service.specs.Act.{partOf, actOf, Asked, outcomeOf, actedReply};
+ghost use Rattle.service.specs.Seen.{saysOf, Replies, Speaks};
 use queue::Room;
 use queue::draft::Drafted;
 use queue::reply::Reply;
@@ -155,4 +156,28 @@ pub fn acted(
         return Reply::Silent;
     }
     joined(frames, head, tail, room)
+}
+
+// A service that asks an act: refused before it, or answered by its outcome. The promise is for every such service.
+pub fn answered(
+    ask: Ask,
+    frames: u8,
+    code: u8,
+    suppress: bool,
+    head: &[u8],
+    tail: &[u8],
+    room: &mut Room,
+) -> Spoken
+    ensures { λ r. ⌜ ((f : Seen → Served) (later : Seen → Service.Effect) (v : Seen) → Asked f later v ask → later v ≡ Service.says v (actedReply code suppress (now (head .entry) ++ now (tail .entry))) → Speaks f v frames (now (room .entry)) r (now (room .exit))) ⌝ }
+{
+    match ask {
+        Ask::Refused(code) => Spoken {
+            reply: Reply::Negative(code),
+            act: Act::none(),
+        },
+        Ask::Asks(act) => Spoken {
+            reply: acted(frames, code, suppress, head, tail, room),
+            act,
+        },
+    }
 }
