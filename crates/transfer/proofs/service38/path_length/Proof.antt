@@ -1,0 +1,31 @@
+use denote.Ref.{now}
+use Rattle.transfer.proofs.Laws.{cut, whole}
+use borrow.Author.Needs.{needs}
+use Rattle.transfer.proofs.service38.path_length.Statement.{statement}
+use Rattle.transfer.proofs.service38.path_length.Tie as tie
+use Rattle.transfer.proofs.service38.path_length.Reads as reads
+use Rattle.transfer.proofs.service38.path_length.Lts as lts
+use Rattle.uds.proofs.frame.word.Reads as word-reads
+
+-- src/service38.rt:20:18
+word-requires : tie.Need-word-requires
+word-requires c κs = search needs
+
+-- src/service38.rt:20:18
+cast-length : tie.Need-cast-length
+cast-length c = search needs
+
+-- src/service38.rt:21:24
+add-if1 : tie.Need-add-if1
+add-if1 c = search needs
+
+-- src/service38.rt:22:9
+returns : tie.Need-returns
+returns c = cut (now (c .before .before .before .args .payload)) _ (c .before .word .ensures) (c .if1 .taken)
+
+-- src/service38.rt:17:1
+returns-2 : tie.Need-returns-2
+returns-2 c = whole (now (c .before .before .before .args .payload)) _ (c .before .word .ensures) (c .if1 .left)
+
+pub path-length-spec : {M : Type 1} → statement M
+path-length-spec = tie.close (tie.spec word-requires cast-length add-if1 returns returns-2)
