@@ -171,8 +171,8 @@ pub fn answered(
     ensures { λ r. ⌜ ((f : Seen → Served) (later : Seen → Service.Effect) (v : Seen) → Asked f later v ask → later v ≡ Service.says v (actedReply code suppress (now (head .entry) ++ now (tail .entry))) → Speaks f v frames (now (room .entry)) r (now (room .exit))) ⌝ }
 {
     match ask {
-        Ask::Refused(code) => Spoken {
-            reply: Reply::Negative(code),
+        Ask::Refused(why) => Spoken {
+            reply: Reply::Negative(why),
             act: Act::none(),
         },
         Ask::Asks(act) => Spoken {
