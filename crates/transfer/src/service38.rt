@@ -1,11 +1,12 @@
 // 38 requestFileTransfer: 3 or more; bytes 1 and 2 of the payload are the path's length, high byte first; a path that does not fit is empty, and what follows
 // it is unused; act; the reply is its bytes.
 ghost use mathlib.Core.Path.{_≡_};
+ghost use Rattle.model.specs.Frame.{word};
 ghost use Rattle.model.specs.Service.{Seen};
 ghost use Rattle.model.specs.Service38 as Rules;
 ghost use Rattle.service.specs.Act.{Asked};
 ghost use Rattle.service.specs.Seen.{asking, handed, Speaks};
-ghost use Rattle.transfer.specs.Later.{later38};
+ghost use Rattle.transfer.specs.Later.{fitting, later38};
 use queue::Room;
 use service::Act;
 use service::Ask;
@@ -13,12 +14,12 @@ use service::Part;
 use service::Spoken;
 use uds::nrc::Nrc;
 
-// The path's length; 0 where the path does not fit.
-fn path_length(payload: &[u8]) -> usize
-    ensures { λ r. ⌜ r ≡ Rules.pathLength (now (payload .entry)) ⌝ }
+// The path's length; 0 where the path does not fit into the rest.
+fn path_length(payload: &[u8], rest: usize) -> usize
+    ensures { λ r. ⌜ r ≡ fitting (word (now (payload .entry)) 1) rest ⌝ }
 {
     let length = uds::frame::word(payload, 1) as usize;
-    if payload.len() < 3 + length {
+    if rest < length {
         return 0;
     }
     length
@@ -31,7 +32,7 @@ pub fn ask38(payload: &[u8]) -> Ask
     if payload.len() < 3 {
         return Ask::Refused(Nrc::INCORRECT_MESSAGE_LENGTH_OR_INVALID_FORMAT);
     }
-    let path = path_length(payload);
+    let path = path_length(payload, payload.len() - 3);
     let act = Act {
         a: Part::of(1, 1),
         b: Part::of(4, path),
