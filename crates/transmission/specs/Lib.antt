@@ -1,0 +1,3 @@
+pub mod Later
+pub mod View22
+pub mod View2A
