@@ -40,10 +40,8 @@ pub fn service28(frames: u8, payload: &[u8], err: u8, given: &[u8], room: &mut R
         },
         Ask::Asks(act) => {
             let code = service::outcome(err, given, 256);
-            let echo = uds::frame::sub_function(payload);
-            let suppress = uds::frame::suppressed(payload);
             Spoken {
-                reply: service::acted(frames, code, suppress, &[echo], &[], room),
+                reply: super::echoed(frames, code, payload, room),
                 act,
             }
         }
