@@ -84,9 +84,6 @@ all-cancelled src p i whole t inv a b = let e : i ≡ length p = omega arith in 
 
 -- what stands and what is said, of a reply with nothing of it in the room, and of one that is made there
 module _ (v : Seen) (frames : ℕ) (room : List ℕ) where
-  pub says-only : (should : Effect) (r : Scheduled) (subs' : List ℕ) (code : ℕ) → should ≡ schedules v (tableOf (r .count) subs') (negative code) → replyOf (r .reply) frames room ≡ negative code → Schedules v (answers should) frames room r subs' room
-  says-only should r subs' code e z = record { scheduled = rw (e, z); unseen = λ heads. refl }
-
   pub says-always : (should : Effect) (r : Scheduled) (subs' : List ℕ) (code : ℕ) → should ≡ schedules v (tableOf (r .count) subs') (always code) → replyOf (r .reply) frames room ≡ always code → Schedules v (answers should) frames room r subs' room
   says-always should r subs' code e z = record { scheduled = rw (e, z); unseen = λ heads. refl }
 

@@ -119,10 +119,7 @@ fn register_all(
                 };
             }
             Registering::Unreadable => {
-                return Scheduled {
-                    reply: Reply::Negative(Nrc::REQUEST_OUT_OF_RANGE),
-                    count,
-                };
+                return refused(Nrc::REQUEST_OUT_OF_RANGE, count);
             }
         }
         i += 1;

@@ -1,20 +1,23 @@
 use borrow.Author.Needs.{needs}
 use Prim.Native.Nat.{_+_, _-_, _≤_}
-use mathlib.Core.Path.{_≡_, refl}
+use mathlib.Core.Path.{_≡_, refl, ap}
 use mathlib.Core.List.{[], _∷_}
 use native.Mathlib.Omega.{arith}
 use denote.Ref.{now}
 use lib.ListN.{length, drop}
+use Rattle.model.specs.Service.{answers}
 use Rattle.model.specs.Service2A.{registerAll}
 use Rattle.periodic.specs.View.{tableOf}
-use Rattle.queue.specs.declared.reply.Reply.the-variants.{Negative, Always}
+use Rattle.queue.specs.declared.reply.Reply.the-variants.{Always}
+use Rattle.service.specs.Seen.{configured, inSession, receivedAt, receivedFrom}
 use Rattle.transmission.specs.View2A.{Every2A}
-use Rattle.transmission.proofs.Laws2A.{next, all-done, says-only, says-always, says-mode}
+use Rattle.transmission.proofs.Laws2A.{next, all-done, so, says-always, says-mode}
 use Rattle.transmission.proofs.service2a.register_all.Statement.{statement}
 use Rattle.transmission.proofs.service2a.register_all.Tie as tie
 use Rattle.transmission.proofs.service2a.register_all.Reads as reads
 use Rattle.transmission.proofs.service2a.register_all.Lts as lts
 use Rattle.service.proofs.joined.Reads as joined-reads
+use Rattle.transmission.proofs.service2a.refused.Reads as refused-reads
 use Rattle.transmission.proofs.service2a.register_one.Reads as register-one-reads
 
 abbrev Inv-loop : tie.InvT-loop
@@ -44,8 +47,18 @@ returns c = let a = c .before .before .before .before .before .before .before .b
 enum-told-2 : tie.Need-enum-told-2 Inv-loop μ-loop
 enum-told-2 c = search needs
 
+refused-requires : tie.Need-refused-requires Inv-loop μ-loop
+refused-requires c κs = search needs
+
 returns-2 : tie.Need-returns-2 Inv-loop μ-loop
-returns-2 c = let a = c .before .before .before .before .before .before .before .before .args in let l = c .before .before .before .before .before .before .loop in λ level v. says-only _ (a .frames) (now (a .room)) _ (record { reply = Negative 0x31; count = l .count }) _ 0x31 (next _ (a .mode) (now (a .ids)) (l .i) _ _ (tableOf (l .count) (l .subs)) (l .inv .2 level v) (c .before .before .before .before .before .loop-test .taken) (rw (c .enum-told2 .given .1) at (c .before .before .register-one .ensures .onward level v (drop (l .i + 1) (now (a .ids)))))) refl
+returns-2 c = let q = c .before in
+    let a = q .before .before .before .before .before .before .before .before .args in
+    let l = q .before .before .before .before .before .before .loop in
+    λ level v.
+    let u = inSession (a .session) level (receivedAt (a .t .0) (receivedFrom (a .src) (configured (now (a .config)) v))) in
+    so u (a .frames) (now (a .room)) _ _ (c .refused .result) _ _
+    (ap answers (next u (a .mode) (now (a .ids)) (l .i) _ _ (tableOf (l .count) (l .subs)) (l .inv .2 level v) (q .before .before .before .before .before .loop-test .taken) (rw (q .enum-told2 .given .1) at (q .before .before .register-one .ensures .onward level v (drop (l .i + 1) (now (a .ids)))))))
+    (c .refused .ensures u (a .frames) _ (now (a .room)))
 
 add-i : tie.Need-add-i Inv-loop μ-loop
 add-i c = search needs
@@ -81,6 +94,7 @@ register-all-spec =
     enum-told
     returns
     enum-told-2
+    refused-requires
     returns-2
     add-i
     loop-less
