@@ -7,6 +7,7 @@ ghost use Rattle.management.specs.Effects.{Refuses};
 
 pub mod service10;
 pub mod service11;
+pub mod service27;
 pub mod service28;
 pub mod service3e;
 
