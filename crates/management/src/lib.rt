@@ -15,6 +15,7 @@ use queue::Room;
 use queue::reply::Reply;
 use service::Act;
 use service::Wanted;
+use state::apply::Effect;
 
 // What comes of an act, by the code of its outcome, where the sub-function is echoed unless suppressed.
 fn echoed(frames: u8, code: u8, payload: &[u8], room: &mut Room) -> Reply
@@ -29,9 +30,16 @@ fn echoed(frames: u8, code: u8, payload: &[u8], room: &mut Room) -> Reply
 fn refused(session: u8, level: u8, subscriptions: u8, code: u8) -> Wanted
     ensures { λ r. ⌜ Refuses session level subscriptions code r ⌝ }
 {
-    let effect = service::says(session, level, subscriptions, Reply::Negative(code));
+    let reply = Reply::Negative(code);
     Wanted {
-        effect,
+        effect: Effect {
+            reply,
+            session,
+            level,
+            subscriptions,
+            clears_seed: false,
+            waits: false,
+        },
         act: Act::none(),
     }
 }

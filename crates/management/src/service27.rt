@@ -157,7 +157,7 @@ fn give_seed(
 
 // Accepted: the count is 0, the seed cleared, the access type echoed.
 fn accept(level: u8, frames: u8, k: &mut Security, room: &mut Room) -> Reply
-    requires { ⌜ (level < 255) × (securityValid (securityOf (now k)) ≡ true) ⌝ }
+    requires { ⌜ (level < 128) × (securityValid (securityOf (now k)) ≡ true) ⌝ }
     ensures { λ r. ⌜ ((v : Seen) → Leaves (Rules.accepted (secured (now (k .entry)) v) level) v level frames (now (room .entry)) r (now (k .exit)) (now (room .exit))) ⌝ }
 {
     security::reset(k, level);

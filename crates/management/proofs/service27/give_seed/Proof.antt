@@ -1,6 +1,7 @@
 use mathlib.Core.Path.{ap, sym, _∙_}
 use mathlib.Core.List.{_∷_}
 use denote.Ref.{now}
+use native.Mathlib.Omega.{arith}
 use Rattle.model.specs.Config.{findLevel}
 use Rattle.model.specs.State.{Security}
 use Rattle.model.specs.Queue.{positive, negative}
@@ -60,7 +61,7 @@ returns-3 c = let a = c .before .before .before .before .before .before .before 
     let row = findLevel (configOf (now (a .config))) (a .level) in
     let l = c .before .before .before .before .seed-length .ensures ∙ ap seedLengthOf (c .before .before .before .before .before .find-security-level .ensures .row) ∙ row-length row in
     leaves v (a .frames) (now (a .room)) _ (v .session .level) _ _ (Negative 0x14) _
-    (full-length u (a .level) (a .code) (now (a .given)) (rowOr row) (c .before .before .before .before .before .before .if1 .left) (c .before .before .before .if2 .left ∙ l) (c .before .before .if3 .taken) ∙ ap (λ (s : Security). secures v s (negative 0x14)) (sym (c .clear2 .ensures .state))) (negates v (a .frames) (now (a .room)) 0x14)
+    (full-length u (a .level) (a .code) (now (a .given)) (rowOr row) (c .before .before .before .before .before .before .if1 .left) (c .before .before .before .if2 .left ∙ l) (omega (arith, c .before .before .if3 .taken)) ∙ ap (λ (s : Security). secures v s (negative 0x14)) (sym (c .clear2 .ensures .state))) (negates v (a .frames) (now (a .room)) 0x14)
 
 -- src/service27.rt:153:5
 seed-requires : tie.Need-seed-requires
@@ -82,7 +83,7 @@ returns-4 c = let a = c .before .before .before .before .before .before .before 
     let row = findLevel (configOf (now (a .config))) (a .level) in
     let l = c .before .before .before .before .before .before .before .seed-length .ensures ∙ ap seedLengthOf (c .before .before .before .before .before .before .before .before .find-security-level .ensures .row) ∙ row-length row in
     leaves v (a .frames) (now (a .room)) _ (v .session .level) _ _ (c .joined .result) _
-    (given-seed u (a .level) (a .code) b (rowOr row) (c .before .before .before .before .before .before .before .before .before .if1 .left) (c .before .before .before .before .before .before .if2 .left ∙ l) (c .before .before .before .before .before .if3 .left) ∙ ap (λ (s : Security). secures v s (positive (a .level ∷ b))) (sym (kept-seed (u .security) _ (a .level) b (c .before .before .before .before .before .if3 .left) (c .before .before .before .seed .ensures .state)))) (c .joined .ensures)
+    (given-seed u (a .level) (a .code) b (rowOr row) (c .before .before .before .before .before .before .before .before .before .if1 .left) (c .before .before .before .before .before .before .if2 .left ∙ l) (omega (arith, c .before .before .before .before .before .if3 .left)) ∙ ap (λ (s : Security). secures v s (positive (a .level ∷ b))) (sym (kept-seed (u .security) _ (a .level) b (omega (arith, c .before .before .before .before .before .if3 .left)) (c .before .before .before .seed .ensures .state)))) (c .joined .ensures)
 
 pub give-seed-spec : {M : Type 1} → statement M
 give-seed-spec =
