@@ -187,13 +187,13 @@ fn deny(config: &Config, level: u8, t: Instant, k: &mut Security) -> u8
 }
 
 // The level whose key an even access type sends.
-fn below(access: u8) -> u8
-    ensures { λ r. ⌜ r ≡ access - 1 ⌝ }
+fn below(n: u8) -> u8
+    ensures { λ r. ⌜ r ≡ n - 1 ⌝ }
 {
-    if access == 0 {
+    if n == 0 {
         return 0;
     }
-    access - 1
+    n - 1
 }
 
 // What comes of the outcome: a seed, or a key that was accepted or refused.
