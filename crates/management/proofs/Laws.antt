@@ -12,7 +12,7 @@ use Rattle.model.specs.Config.{SessionConfig, findSession, p2Of, p2ExtOf}
 use Rattle.model.specs.Frame.{suppressed, subFunction, twoBytes}
 use Rattle.model.specs.State.{opened, unlocked, cleared}
 use Rattle.model.specs.Queue as Queue
-use Rattle.model.specs.Queue.{silent, positive}
+use Rattle.model.specs.Queue.{silent, positive, negative}
 use Rattle.model.specs.Reply.{refusal}
 use Rattle.model.specs.Service as Rules
 use Rattle.model.specs.Service.{Seen, Served, Part, part, says, asks, answers, refuses}
@@ -21,6 +21,7 @@ use Rattle.model.specs.Service10.{timings, opens, sessionControl, service10}
 use Rattle.model.specs.Service11.{reset, service11}
 use Rattle.model.specs.Service28.{service28}
 use Rattle.queue.specs.declared.reply.Reply.{Reply}
+use Rattle.queue.specs.declared.reply.Reply.the-variants.{Negative}
 use Rattle.security.specs.View.{securityOf}
 use Rattle.state.specs.View.{effectOf}
 use Rattle.state.specs.declared.apply.Effect.{Effect}
@@ -64,6 +65,14 @@ module _ (v : Seen) (frames : ℕ) (room : List ℕ) where
     effect = ap (fittedEffect maxFrame) z ∙ ap (λ (x : Queue.Reply). record { session = unlocked (v .session) held; security = securityOf k'; periodic = v .periodic; reply = x; waits = false }) (sym (h .reply));
     unseen = h .unseen;
   }
+
+  -- by another name
+  pub leaves-as : {k' : List ℕ} {held : ℕ} {should other : Rules.Effect} {r : Reply} {room' : List ℕ} → should ≡ other → Leaves other v held frames room r k' room' → Leaves should v held frames room r k' room'
+  leaves-as e h = record { effect = ap (fittedEffect maxFrame) e ∙ h .effect; unseen = h .unseen }
+
+  -- a reply that is no more than a code
+  pub negates : (code : ℕ) → Replies (negative code) frames room (Negative code) room
+  negates code = record { reply = refl; unseen = λ heads. refl }
 
 module _ (v : Seen) where
   pub echoes3E : service3E v ≡ answers (says v (actedReply 0 (suppressed (v .payload)) (subFunction (v .payload) ∷ [])))

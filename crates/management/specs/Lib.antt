@@ -1,2 +1,3 @@
 pub mod Later
 pub mod Effects
+pub mod Access
