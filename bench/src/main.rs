@@ -5,6 +5,7 @@
 //!   bench cases              the names of the cases, in order
 //!   bench count SIDE CASE N  runs a case N times, to be counted by valgrind
 //!   bench state ..           the same of the state: `state/mod.rs`
+//!   bench service ..         each service alone: `service/mod.rs`
 
 mod cases;
 mod compare;
@@ -13,6 +14,7 @@ mod ours;
 mod plain;
 mod published;
 mod queue;
+mod service;
 mod stack;
 mod state;
 mod timing;
@@ -111,6 +113,7 @@ fn main() -> ExitCode {
             }
         },
         ["state", ref rest @ ..] => return state::run(rest),
+        ["service", ref rest @ ..] => return service::run(rest),
         ["time"] => times(),
         ["stack"] => stacks(),
         ["cases"] => {
@@ -122,7 +125,9 @@ fn main() -> ExitCode {
         ["count", "1", case, n] => run::<Published>(number(case) as usize, number(n)),
         ["count", "2", case, n] => run::<Plain>(number(case) as usize, number(n)),
         _ => {
-            println!("bench compare | time | stack | cases | count SIDE CASE N | state ..");
+            println!(
+                "bench compare | time | stack | cases | count SIDE CASE N | state .. | service .."
+            );
             return ExitCode::from(2);
         }
     }

@@ -6,9 +6,9 @@
 
 mod cases;
 mod compare;
-mod config;
+pub mod config;
 mod edges;
-mod held;
+pub mod held;
 mod ours;
 mod plain;
 
