@@ -41,8 +41,8 @@ fn row(name: &'static str, run: fn(&mut Asked, &mut [u8]), made: fn() -> Asked, 
 #[rustfmt::skip]
 fn management() -> Vec<Row> {
     vec![
-        row("3E: echo", run!(service3e), || fixed(1).of(&[0]), positive(1)),
-        row("3E: suppressed", run!(service3e), || fixed(1).of(&[0x80]), SILENT),
+        row("3E: echo", run!(service3E), || fixed(1).of(&[0]), positive(1)),
+        row("3E: suppressed", run!(service3E), || fixed(1).of(&[0x80]), SILENT),
         row("10: unknown session", run!(service10), || fixed(1).of(&[9]), negative(0x12)),
         row("10: opened", run!(service10), || fixed(1).of(&[3]), positive(5)),
         row("10: opened, full, last row", run!(service10), || full(1).of(&[8]), positive(5)),
@@ -72,14 +72,14 @@ fn transmission() -> Vec<Row> {
         row("22: 1 of 253 bytes, full, last row", run!(service22), || full(253).reads(0xF27F, 1), positive(255)),
         row("22: 127 of 0 bytes, full, last row", run!(service22), || full(0).reads(0xF27F, 127), positive(254)),
         row("22: 129 of 0 bytes, full, last row", run!(service22), || full(0).reads(0xF27F, 129), negative(0x14)),
-        row("2E: short", run!(service2e), || fixed(1).of(&[0xF2, 1]), negative(0x13)),
-        row("2E: unknown identifier", run!(service2e), || fixed(1).of(&[0xF2, 2, 0]), negative(0x31)),
-        row("2E: written", run!(service2e), || fixed(1).of(&[0xF2, 1, 0]), positive(2)),
-        row("2E: written, full, last row", run!(service2e), || full(1).of(&[0xF2, 0x7F, 0]), positive(2)),
-        row("2A: unknown mode", run!(service2a), || fixed(1).of(&[5, 1]), negative(0x12)),
-        row("2A: 1 subscription", run!(service2a), || fixed(1).of(&[1, 1]), positive(1)),
-        row("2A: 1, full, last row", run!(service2a), || full(1).of(&[1, 0x7F]), positive(1)),
-        row("2A: 16, full, last sixteen rows", run!(service2a), sixteen, positive(1)),
+        row("2E: short", run!(service2E), || fixed(1).of(&[0xF2, 1]), negative(0x13)),
+        row("2E: unknown identifier", run!(service2E), || fixed(1).of(&[0xF2, 2, 0]), negative(0x31)),
+        row("2E: written", run!(service2E), || fixed(1).of(&[0xF2, 1, 0]), positive(2)),
+        row("2E: written, full, last row", run!(service2E), || full(1).of(&[0xF2, 0x7F, 0]), positive(2)),
+        row("2A: unknown mode", run!(service2A), || fixed(1).of(&[5, 1]), negative(0x12)),
+        row("2A: 1 subscription", run!(service2A), || fixed(1).of(&[1, 1]), positive(1)),
+        row("2A: 1, full, last row", run!(service2A), || full(1).of(&[1, 0x7F]), positive(1)),
+        row("2A: 16, full, last sixteen rows", run!(service2A), sixteen, positive(1)),
     ]
 }
 

@@ -95,7 +95,7 @@ unsafe extern "C" {
         room: &mut Room,
     ) -> ToldWanted;
 
-    fn bench_service2a(
+    fn bench_service2A(
         config: &Config,
         session: u8,
         level: u8,
@@ -109,7 +109,7 @@ unsafe extern "C" {
         room: &mut Room,
     ) -> ToldWanted;
 
-    fn bench_service2e(
+    fn bench_service2E(
         config: &Config,
         session: u8,
         level: u8,
@@ -122,7 +122,7 @@ unsafe extern "C" {
         room: &mut Room,
     ) -> ToldSpoken;
 
-    fn bench_service3e(
+    fn bench_service3E(
         frames: u8,
         payload: *const u8,
         length: usize,
@@ -245,11 +245,11 @@ pub fn service27(a: &mut Asked) -> Said {
 
 /// No subscription stands before.
 #[inline]
-pub fn service2a(a: &mut Asked) -> Said {
+pub fn service2A(a: &mut Asked) -> Said {
     let p = &a.payload;
     // SAFETY: as above.
     let told = unsafe {
-        bench_service2a(
+        bench_service2A(
             &a.config,
             a.session,
             0,
@@ -267,12 +267,12 @@ pub fn service2a(a: &mut Asked) -> Said {
 }
 
 #[inline]
-pub fn service2e(a: &mut Asked) -> Said {
+pub fn service2E(a: &mut Asked) -> Said {
     let (p, g) = (&a.payload, &a.given);
     let (bytes, given) = (p.as_ptr(), g.as_ptr());
     // SAFETY: as above.
     let told = unsafe {
-        bench_service2e(
+        bench_service2E(
             &a.config,
             a.session,
             0,
@@ -289,8 +289,8 @@ pub fn service2e(a: &mut Asked) -> Said {
 }
 
 #[inline]
-pub fn service3e(a: &mut Asked) -> Said {
+pub fn service3E(a: &mut Asked) -> Said {
     let p = &a.payload;
     // SAFETY: as above.
-    unsafe { bench_service3e(0, p.as_ptr(), p.len(), &mut a.room) }.reply
+    unsafe { bench_service3E(0, p.as_ptr(), p.len(), &mut a.room) }.reply
 }

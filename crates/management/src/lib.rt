@@ -9,7 +9,7 @@ pub mod service10;
 pub mod service11;
 pub mod service27;
 pub mod service28;
-pub mod service3e;
+pub mod service3E;
 
 use queue::Room;
 use queue::reply::Reply;

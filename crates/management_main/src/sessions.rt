@@ -2,7 +2,7 @@
 use super::spoken;
 use super::wanted;
 use config::Config;
-use management::service3e::service3e;
+use management::service3E::service3E;
 use management::service10::service10;
 use management::service11::service11;
 use management::service28::service28;
@@ -10,7 +10,7 @@ use queue::Room;
 
 fn tester_present(what: &[u8], payload: &[u8]) {
     let mut room: Room = [0; 4353];
-    let s = service3e(0, payload, &mut room);
+    let s = service3E(0, payload, &mut room);
     spoken(what, s, &room);
 }
 

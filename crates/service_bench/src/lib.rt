@@ -231,7 +231,7 @@ pub extern "C" fn bench_service28(
 
 // 2A readDataByPeriodicIdentifier.
 #[no_mangle]
-pub extern "C" fn bench_service2a(
+pub extern "C" fn bench_service2A(
     config: &Config,
     session: u8,
     level: u8,
@@ -245,7 +245,7 @@ pub extern "C" fn bench_service2a(
 ) -> ToldWanted
     ensures { λ r. ⌜ ((v : Seen) (k : List ℕ) → Serves guarded2A (inSession session level (receivedAt (t .0) (receivedFrom src (configured (now (config .entry)) (subscribed subscriptions (now (subs .entry)) (asking (now (payload .entry)) (secured k v))))))) k (now (subs .entry)) frames (now (room .entry)) (wantedTold r) k (now (subs .exit)) (now (room .exit))) ⌝ }
 {
-    let wanted = transmission::service2a::service2a(
+    let wanted = transmission::service2A::service2A(
         config,
         session,
         level,
@@ -262,7 +262,7 @@ pub extern "C" fn bench_service2a(
 
 // 2E writeDataByIdentifier.
 #[no_mangle]
-pub extern "C" fn bench_service2e(
+pub extern "C" fn bench_service2E(
     config: &Config,
     session: u8,
     level: u8,
@@ -274,7 +274,7 @@ pub extern "C" fn bench_service2e(
 ) -> ToldSpoken
     ensures { λ r. ⌜ ((v : Seen) → Speaks S2E.service2E (asking (now (payload .entry)) (handed err (now (given .entry)) (configured (now (config .entry)) (inSession session level v)))) frames (now (room .entry)) (spokenTold r) (now (room .exit))) ⌝ }
 {
-    let spoken = transmission::service2e::service2e(
+    let spoken = transmission::service2E::service2E(
         config,
         session,
         level,
@@ -379,9 +379,9 @@ pub extern "C" fn bench_service38(
 
 // 3E testerPresent.
 #[no_mangle]
-pub extern "C" fn bench_service3e(frames: u8, payload: &[u8], room: &mut Room) -> ToldSpoken
+pub extern "C" fn bench_service3E(frames: u8, payload: &[u8], room: &mut Room) -> ToldSpoken
     ensures { λ r. ⌜ ((v : Seen) → Speaks S3E.service3E (asking (now (payload .entry)) v) frames (now (room .entry)) (spokenTold r) (now (room .exit))) ⌝ }
 {
-    let spoken = management::service3e::service3e(frames, payload, room);
+    let spoken = management::service3E::service3E(frames, payload, room);
     told_spoken(spoken)
 }

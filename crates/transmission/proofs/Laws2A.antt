@@ -36,7 +36,7 @@ use Rattle.service.specs.Act.{actOf}
 use Rattle.service.specs.Seen.{asking, configured, inSession, receivedAt, receivedFrom, secured, subscribed, Replies, Serves, saysOf}
 use Rattle.service.specs.declared.Act.{Act}
 use Rattle.transmission.specs.View2A.{guarded2A, Schedules}
-use Rattle.transmission.specs.declared.service2a.Scheduled.{Scheduled}
+use Rattle.transmission.specs.declared.service2A.Scheduled.{Scheduled}
 
 -- the next byte of a list
 one : (p : List ℕ) (i : ℕ) → i < length p → drop i p ≡ getD p i 0 ∷ drop (i + 1) p

@@ -15,9 +15,9 @@ use Rattle.periodic.specs.View.{tableOf}
 use Rattle.queue.specs.View.{Unseen, replyOf}
 use Rattle.service.specs.Fitted.{fitted}
 use Rattle.service.specs.Seen.{asking, configured, inSession, receivedAt, receivedFrom, subscribed}
-use Rattle.transmission.specs.declared.service2a.Registering.{Registering}
-use Rattle.transmission.specs.declared.service2a.Registering.the-variants.{Stands, Full, Unreadable}
-use Rattle.transmission.specs.declared.service2a.Scheduled.{Scheduled}
+use Rattle.transmission.specs.declared.service2A.Registering.{Registering}
+use Rattle.transmission.specs.declared.service2A.Registering.the-variants.{Stands, Full, Unreadable}
+use Rattle.transmission.specs.declared.service2A.Scheduled.{Scheduled}
 
 -- the service, but that a table of more than sixteen or a time above 2^48, which no valid call has, is refused
 unfoldable pub guarded2A : Seen → Served

@@ -1,4 +1,4 @@
 // Reading and writing by identifier, and periodic transmission: 22, 2E, 2A.
 pub mod service22;
-pub mod service2a;
-pub mod service2e;
+pub mod service2A;
+pub mod service2E;

@@ -15,7 +15,7 @@ fn ask(
     payload: &[u8],
 ) -> u8 {
     let mut room = [0u8; 4353];
-    let wanted = transmission::service2a::service2a(
+    let wanted = transmission::service2A::service2A(
         c,
         1,
         0,

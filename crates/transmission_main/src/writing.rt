@@ -5,7 +5,7 @@ use lines::Line;
 
 fn write(what: &[u8], c: &Config, session: u8, level: u8, payload: &[u8], err: u8, given: &[u8]) {
     let mut room = [0u8; 4353];
-    let spoken = transmission::service2e::service2e(
+    let spoken = transmission::service2E::service2E(
         c,
         session,
         level,
