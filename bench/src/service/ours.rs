@@ -148,7 +148,7 @@ macro_rules! acting {
 
 acting! {
     service28 bench_service28
-    service2f bench_service2f
+    service2f bench_service2F
     service31 bench_service31
     service34 bench_service34
     service36 bench_service36

@@ -11,8 +11,6 @@ use Rattle.management.proofs.service3E.service3E.Reads as service3E
 use Rattle.management.proofs.service10.service10.Reads as service10
 use Rattle.management.proofs.service11.ask11.Reads as ask11
 use Rattle.management.proofs.service11.service11.Reads as service11
-use Rattle.management.proofs.service27.ask27.Reads as ask27
-use Rattle.management.proofs.service27.service27.Reads as service27
 use Rattle.management.proofs.service28.ask28.Reads as ask28
 use Rattle.management.proofs.service28.service28.Reads as service28
 
@@ -28,14 +26,6 @@ ask11-settled κs a x e y f p q = same-asked (p blank) (q blank)
 
 pub service11-settled : (κs : _) (a : _) → Settles (service11.Post κs a) (λ x e y f. (t : ℕ) (k subs : List ℕ) → SameWanted t (a .1 .1 .1 .0) x y k k subs subs (now (e .1 .1 .1 .1 .1 .1 .1 .0)) (now (f .1 .1 .1 .1 .1 .1 .1 .0)))
 service11-settled κs a x e y f p q t k subs = same-wanted (p (receivedAt t blank) k subs) (q (receivedAt t blank) k subs)
-
-pub ask27-settled : (κs : _) (a : _) → Settles (ask27.Post κs a) (λ x e y f. askedAct x ≡ askedAct y)
-ask27-settled κs a x e y f p q = same-asked (p blank) (q blank)
-
--- of the security words as it leaves them
-pub service27-settled : (κs : _) (a : _)
-    → Settles (service27.Post κs a) (λ x e y f. (subs : List ℕ) → SameWanted (a .1 .1 .1 .1 .1 .1 .0 .0) (a .1 .1 .1 .1 .0) x y (now (e .1 .1 .1 .1 .1 .1 .1 .1 .1 .0)) (now (f .1 .1 .1 .1 .1 .1 .1 .1 .1 .0)) subs subs (now (e .1 .1 .1 .1 .1 .1 .1 .1 .1 .1 .0)) (now (f .1 .1 .1 .1 .1 .1 .1 .1 .1 .1 .0)))
-service27-settled κs a x e y f p q subs = same-wanted (p blank subs) (q blank subs)
 
 pub ask28-settled : (κs : _) (a : _) → Settles (ask28.Post κs a) (λ x e y f. askedAct x ≡ askedAct y)
 ask28-settled κs a x e y f p q = same-asked (p blank) (q blank)

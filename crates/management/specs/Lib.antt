@@ -1,3 +1,1 @@
 pub mod Later
-pub mod Effects
-pub mod Access

@@ -51,7 +51,7 @@ pub fn service10(
     ensures { λ r. ⌜ ((v : Seen) (k subs : List ℕ) → Serves Rules.service10 (inSession session level (secured k (subscribed subscriptions subs (asking (now (payload .entry)) (configured (now (config .entry)) v))))) k subs frames (now (room .entry)) r k subs (now (room .exit))) ⌝ }
 {
     if payload.len() < 1 {
-        return super::refused(
+        return service::refused(
             session,
             level,
             subscriptions,
@@ -61,7 +61,7 @@ pub fn service10(
     let kind = uds::frame::sub_function(payload);
     let found = config::find_session(config, kind);
     let Found::At(_) = found else {
-        return super::refused(
+        return service::refused(
             session,
             level,
             subscriptions,

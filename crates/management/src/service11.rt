@@ -6,7 +6,7 @@ ghost use Rattle.model.specs.Service.{Seen};
 ghost use Rattle.model.specs.Service11 as Rules;
 ghost use Rattle.service.specs.Act.{Asked, outcomeOf};
 ghost use Rattle.service.specs.Seen.{asking, handed, inSession, secured, subscribed, Serves};
-ghost use Rattle.management.specs.Effects.{Effects};
+ghost use Rattle.service.specs.Effects.{Effects};
 ghost use Rattle.management.specs.Later.{later11};
 use queue::Room;
 use service::Act;
@@ -73,7 +73,7 @@ pub fn service11(
     ensures { λ r. ⌜ ((v : Seen) (k subs : List ℕ) → Serves Rules.service11 (inSession session level (secured k (subscribed subscriptions subs (asking (now (payload .entry)) (handed err (now (given .entry)) v))))) k subs frames (now (room .entry)) r k subs (now (room .exit))) ⌝ }
 {
     match ask11(payload) {
-        Ask::Refused(code) => super::refused(session, level, subscriptions, code),
+        Ask::Refused(code) => service::refused(session, level, subscriptions, code),
         Ask::Asks(act) => {
             let code = service::outcome(err, given, 256);
             Wanted {

@@ -2,7 +2,7 @@
 // the seed is cleared and whether the change waits: 1 is yes and 0 is no. After 27 a second line has the security words: the seed's level and length, how
 // many counts there are and the first, how many locks and the first. Replies are in hex, numbers decimal.
 // What it must write was worked out by hand from the rules in docs/PROMISES.md, before the program ran.
-mod access;
+mod keys;
 mod sessions;
 
 use config::Config;
@@ -113,5 +113,5 @@ fn configuration() -> Config {
 fn main() {
     let c = configuration();
     sessions::run(&c);
-    access::run(&c);
+    keys::run(&c);
 }

@@ -1,17 +1,16 @@
 -- A reply that was found too long in the making is, carried out, what the positive reply would have become.
-use Prim.Native.Nat.{ℕ, suc, _+_, _≤_, _<_}
-use mathlib.Core.Path.{_≡_, refl, ap, ap₂, sym, _∙_}
+use Prim.Native.Nat.{ℕ, suc, _≤_, _<_}
+use mathlib.Core.Path.{_≡_, refl, ap₂}
 use mathlib.Core.Bool.{Bool, true, false}
-use mathlib.Core.List.{List, [], _∷_, _++_}
+use mathlib.Core.List.{List}
 use native.Mathlib.Omega.{arith}
-use lib.ListN.{length, length-append}
+use lib.ListN.{length}
 use lib.Dec.{leb}
-use borrow.Author.Tests.{le-leb, lt-leb, leb-true, leb-false}
+use borrow.Author.Tests.{le-leb, lt-leb, leb-false}
 use Rattle.model.specs.Tests.{pick}
-use Rattle.model.specs.Numbers.{Moment, maxFrame}
-use Rattle.model.specs.State.{AddressMode, State, Step}
+use Rattle.model.specs.Numbers.{Moment}
+use Rattle.model.specs.State.{AddressMode, State}
 use Rattle.model.specs.Queue.{Reply, silent, positive, negative, always, pends, confirmed, answered}
-use Rattle.model.specs.Queue as Queue
 use Rattle.model.specs.Reply.{taken, readied, replied}
 use Rattle.model.specs.Service.{Effect, apply, changed, changedAfter}
 use Rattle.service.specs.Fitted.{fittedReply, fittedEffect}

@@ -2,11 +2,11 @@
 use Prim.Native.Nat.{ℕ, _+_, _≤_, _<_}
 use mathlib.Core.Path.{_≡_, refl, ap, sym, _∙_}
 use mathlib.Core.Bool.{Bool, true, false, false≢true}
-use mathlib.Core.List.{List, [], _∷_, _++_}
+use mathlib.Core.List.{List, [], _++_}
 use native.Mathlib.Omega.{arith}
 use lib.ListN.{length, length-append}
 use lib.Dec.{eqb, leb}
-use borrow.Author.Tests.{le-leb, lt-leb, leb-true, leb-false, eq-eqb, ne-eqb}
+use borrow.Author.Tests.{le-leb, lt-leb, leb-false, eq-eqb, ne-eqb}
 use Rattle.model.specs.Tests.{pick}
 use Rattle.model.specs.Numbers.{maxFrame}
 use Rattle.model.specs.Values as Values
@@ -16,9 +16,7 @@ use Rattle.model.specs.Reply.{refusal}
 use Rattle.model.specs.Service as Rules
 use Rattle.model.specs.Service.{Seen, Served, says, acted, part}
 use Rattle.model.specs.Service22.{Reading, going, ended, appended, readReply}
-use Rattle.queue.specs.View.{Unseen, replyOf, draftOf, readingOf}
-use Rattle.queue.specs.declared.draft.Drafted.{Drafted}
-use Rattle.queue.specs.declared.draft.Drafted.the-variants.{Going, TooLong}
+use Rattle.queue.specs.View.{replyOf}
 use Rattle.queue.specs.declared.reply.Reply.{Reply}
 use Rattle.queue.specs.declared.reply.Reply.the-variants.{Silent, Negative}
 use Rattle.state.specs.View.{effectOf}
@@ -29,7 +27,7 @@ use Rattle.service.specs.Seen.{inSession, secured, subscribed, Replies, 
 use Rattle.service.specs.declared.Act.{Act}
 use Rattle.service.specs.declared.Ask.the-variants.{Refused, Asks}
 use Rattle.service.specs.declared.Spoken.{Spoken}
-use Rattle.service.proofs.Fitted.{fits, exceeds}
+use Rattle.service.proofs.Fitted.{exceeds}
 
 -- a part of the frame
 pub nothing : (start len : ℕ) → len ≡ 0 → record { start = 0; len = 0 } ≡ part start len

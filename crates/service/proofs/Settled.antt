@@ -15,7 +15,7 @@ use Rattle.uds.proofs.Settled.{said}
 use Rattle.queue.specs.View.{queueOf, replyOf}
 use Rattle.queue.specs.declared.reply.Reply.{Reply}
 use Rattle.state.specs.View.{effectOf}
-use Rattle.service.specs.Act.{partOf, actOf, askedOf, Asked, outcomeOf, actedReply}
+use Rattle.service.specs.Act.{actOf, askedOf, Asked, outcomeOf, actedReply}
 use Rattle.service.specs.Seen.{Replies, Speaks, Serves}
 use Rattle.service.specs.declared.Ask.{Ask}
 use Rattle.service.specs.declared.Ask.the-variants.{Refused, Asks}
@@ -30,6 +30,7 @@ use Rattle.service.proofs.first.Reads as first
 use Rattle.service.proofs.joined.Reads as joined
 use Rattle.service.proofs.outcome.Reads as outcome
 use Rattle.service.proofs.refusal.Reads as refusal
+use Rattle.service.proofs.refused.Reads as refused
 use Rattle.service.proofs.says.Reads as says
 
 -- something to see: a promise that holds whatever is seen is settled by this
@@ -99,6 +100,9 @@ first-settled κs a x e y f p q = said p q
 
 pub says-settled : (κs : _) (a : _) → Settles (says.Post κs a) Answer
 says-settled κs a x e y f p q = said p q
+
+pub refused-settled : (κs : _) (a : _) → Settles (refused.Post κs a) (λ x e y f. (x .effect ≡ y .effect) × (actOf (x .act) ≡ actOf (y .act)))
+refused-settled κs a x e y f p q = (said (p .effect) (q .effect), said (p .act) (q .act))
 
 pub refusal-settled : (κs : _) (a : _) → Settles (refusal.Post κs a) (λ x e y f. (frames : ℕ) (room : List ℕ) → replyOf x frames room ≡ replyOf y frames room)
 refusal-settled κs a x e y f p q frames room = said (p frames room) (q frames room)

@@ -1,3 +1,4 @@
 pub mod Fitted
 pub mod Seen
 pub mod Act
+pub mod Effects

@@ -1,6 +1,6 @@
 -- What a service sees of the numbers and of what is lent, and what its answer means. A service is lent only a part of what it may see: its promise is for
 -- every `v`, with that part in its place.
-use Prim.Native.Nat.{ℕ, _≤_}
+use Prim.Native.Nat.{ℕ}
 use mathlib.Core.Path.{_≡_}
 use mathlib.Core.Bool.{true, false}
 use mathlib.Core.List.{List}

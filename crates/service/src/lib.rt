@@ -10,6 +10,7 @@ ghost use Rattle.model.specs.Service as Service;
 ghost use Rattle.model.specs.Service.{Seen, Served};
 ghost use Rattle.queue.specs.View.{replyOf};
 ghost use Rattle.service.specs.Act.{partOf, actOf, Asked, outcomeOf, actedReply};
+ghost use Rattle.service.specs.Effects.{Refuses};
 ghost use Rattle.service.specs.Seen.{saysOf, Replies, Speaks};
 use queue::Room;
 use queue::draft::Drafted;
@@ -115,6 +116,24 @@ pub fn says(session: u8, level: u8, subscriptions: u8, reply: Reply) -> Effect
         subscriptions,
         clears_seed: false,
         waits: false,
+    }
+}
+
+// Refused, and nothing changed.
+pub fn refused(session: u8, level: u8, subscriptions: u8, code: u8) -> Wanted
+    ensures { λ r. ⌜ Refuses session level subscriptions code r ⌝ }
+{
+    let reply = Reply::Negative(code);
+    Wanted {
+        effect: Effect {
+            reply,
+            session,
+            level,
+            subscriptions,
+            clears_seed: false,
+            waits: false,
+        },
+        act: Act::none(),
     }
 }
 

@@ -13,7 +13,7 @@ use Rattle.service_bench.proofs.bench_service27.Reads as bench-service2
 use Rattle.service_bench.proofs.bench_service28.Reads as bench-service28
 use Rattle.service_bench.proofs.bench_service2A.Reads as bench-service2A
 use Rattle.service_bench.proofs.bench_service2E.Reads as bench-service2E
-use Rattle.service_bench.proofs.bench_service2f.Reads as bench-service2f
+use Rattle.service_bench.proofs.bench_service2F.Reads as bench-service2F
 use Rattle.service_bench.proofs.bench_service31.Reads as bench-service31
 use Rattle.service_bench.proofs.bench_service34.Reads as bench-service34
 use Rattle.service_bench.proofs.bench_service36.Reads as bench-service36
@@ -44,8 +44,8 @@ bench-service2A-settled κs a x e y f p q k = same-wanted (p blank k) (q blank k
 pub bench-service2E-settled : (κs : _) (a : _) → Settles (bench-service2E.Post κs a) (λ x e y f. SameSpoken (a .1 .1 .1 .0) (spokenTold x) (spokenTold y) (now (e .1 .1 .1 .1 .1 .1 .1 .0)) (now (f .1 .1 .1 .1 .1 .1 .1 .0)))
 bench-service2E-settled κs a x e y f p q = same-spoken (p blank) (q blank)
 
-pub bench-service2f-settled : (κs : _) (a : _) → Settles (bench-service2f.Post κs a) (λ x e y f. SameSpoken (a .0) (spokenTold x) (spokenTold y) (now (e .1 .1 .1 .1 .0)) (now (f .1 .1 .1 .1 .0)))
-bench-service2f-settled κs a x e y f p q = same-spoken (p blank) (q blank)
+pub bench-service2F-settled : (κs : _) (a : _) → Settles (bench-service2F.Post κs a) (λ x e y f. SameSpoken (a .0) (spokenTold x) (spokenTold y) (now (e .1 .1 .1 .1 .0)) (now (f .1 .1 .1 .1 .0)))
+bench-service2F-settled κs a x e y f p q = same-spoken (p blank) (q blank)
 
 pub bench-service31-settled : (κs : _) (a : _) → Settles (bench-service31.Post κs a) (λ x e y f. SameSpoken (a .0) (spokenTold x) (spokenTold y) (now (e .1 .1 .1 .1 .0)) (now (f .1 .1 .1 .1 .0)))
 bench-service31-settled κs a x e y f p q = same-spoken (p blank) (q blank)

@@ -1,5 +1,4 @@
 -- What is told in numbers, as the service said it.
-use Prim.Native.Nat.{ℕ}
 use lib.Dec.{eqb}
 use Rattle.model.specs.Tests.{pick}
 use Rattle.queue.specs.declared.reply.Reply.{Reply}

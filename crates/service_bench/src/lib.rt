@@ -16,7 +16,7 @@ ghost use Rattle.model.specs.Service37 as S37;
 ghost use Rattle.model.specs.Service38 as S38;
 ghost use Rattle.model.specs.Service3E as S3E;
 ghost use Rattle.service.specs.Seen.{asking, handed, configured, inSession, receivedAt, receivedFrom, secured, subscribed, valued, Speaks, Serves};
-ghost use Rattle.management.specs.Access.{access27};
+ghost use Rattle.access.specs.Access.{access27};
 ghost use Rattle.transmission.specs.View2A.{guarded2A};
 ghost use Rattle.service_bench.specs.Told.{replyTold, spokenTold, wantedTold};
 use config::Config;
@@ -168,7 +168,7 @@ pub extern "C" fn bench_service22(
 ) -> ToldSpoken
     ensures { λ r. ⌜ ((v : Seen) → Speaks S22.service22 (asking (now (payload .entry)) (configured (now (config .entry)) (inSession session level (valued (now (values .entry)) (now (pool .entry)) v)))) frames (now (room .entry)) (spokenTold r) (now (room .exit))) ⌝ }
 {
-    let spoken = transmission::service22::service22(
+    let spoken = data::service22::service22(
         config,
         session,
         level,
@@ -198,7 +198,7 @@ pub extern "C" fn bench_service27(
 ) -> ToldWanted
     ensures { λ r. ⌜ ((v : Seen) (subs : List ℕ) → Serves access27 (inSession session level (secured (now (k .entry)) (subscribed subscriptions subs (receivedAt (t .0) (asking (now (payload .entry)) (configured (now (config .entry)) (handed err (now (given .entry)) v))))))) (now (k .entry)) subs frames (now (room .entry)) (wantedTold r) (now (k .exit)) subs (now (room .exit))) ⌝ }
 {
-    let wanted = management::service27::service27(
+    let wanted = access::service27::service27(
         config,
         session,
         level,
@@ -274,7 +274,7 @@ pub extern "C" fn bench_service2E(
 ) -> ToldSpoken
     ensures { λ r. ⌜ ((v : Seen) → Speaks S2E.service2E (asking (now (payload .entry)) (handed err (now (given .entry)) (configured (now (config .entry)) (inSession session level v)))) frames (now (room .entry)) (spokenTold r) (now (room .exit))) ⌝ }
 {
-    let spoken = transmission::service2E::service2E(
+    let spoken = data::service2E::service2E(
         config,
         session,
         level,
@@ -289,7 +289,7 @@ pub extern "C" fn bench_service2E(
 
 // 2F inputOutputControlByIdentifier.
 #[no_mangle]
-pub extern "C" fn bench_service2f(
+pub extern "C" fn bench_service2F(
     frames: u8,
     payload: &[u8],
     err: u8,

@@ -10,7 +10,7 @@ use lib.ListN.{length}
 use lib.Dec.{eqb}
 use Rattle.model.specs.Tests.{pick}
 use Rattle.model.specs.State as Model
-use Rattle.model.specs.State.{AddressMode, physical, functional, Session, Security, Subscription, Step}
+use Rattle.model.specs.State.{AddressMode, physical, functional, Session, Step}
 use Rattle.uds.proofs.Promise.{Settles, Answer}
 use Rattle.uds.proofs.Settled.{said}
 use Rattle.uds.proofs.Tab.{tab-length}

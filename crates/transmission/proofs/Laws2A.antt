@@ -1,6 +1,6 @@
 -- What one identifier leaves of the subscriptions, and what is left to do.
 use Prim.Native.Nat.{ℕ, _+_, _*_, _^_, _≤_, _<_, max}
-use mathlib.Core.Path.{_≡_, refl, ap, ap₂, sym, _∙_}
+use mathlib.Core.Path.{_≡_, refl, ap, sym, _∙_}
 use mathlib.Core.Bool.{true, false, false≢true}
 use mathlib.Core.List.{List, [], _∷_}
 use mathlib.Core.Option.{some, none}
@@ -26,14 +26,14 @@ use Rattle.uds.specs.Table.{rowOf}
 use Rattle.uds.specs.declared.table.Found.{Found}
 use Rattle.uds.specs.declared.table.Found.the-variants.{At, Nothing}
 use Rattle.uds.proofs.Tab.{tab-length}
-use Rattle.config.specs.View.{didAt, configOf}
+use Rattle.config.specs.View.{didAt}
 use Rattle.periodic.specs.View.{entryAt, tableOf}
-use Rattle.queue.specs.View.{Unseen, replyOf}
+use Rattle.queue.specs.View.{replyOf}
 use Rattle.state.specs.View.{effectOf}
 use Rattle.state.specs.declared.apply.Effect as Program
 use Rattle.service.specs.Fitted.{fitted}
 use Rattle.service.specs.Act.{actOf}
-use Rattle.service.specs.Seen.{asking, configured, inSession, receivedAt, receivedFrom, secured, subscribed, Replies, Serves, saysOf}
+use Rattle.service.specs.Seen.{inSession, receivedAt, secured, Replies, Serves, saysOf}
 use Rattle.service.specs.declared.Act.{Act}
 use Rattle.transmission.specs.View2A.{guarded2A, Schedules}
 use Rattle.transmission.specs.declared.service2A.Scheduled.{Scheduled}

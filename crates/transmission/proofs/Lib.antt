@@ -1,5 +1,2 @@
-pub mod Laws22
-pub mod Fitted22
-pub mod Laws2E
 pub mod Laws2A
 pub mod Settled

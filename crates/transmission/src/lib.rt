@@ -1,4 +1,2 @@
-// Reading and writing by identifier, and periodic transmission: 22, 2E, 2A.
-pub mod service22;
+// Periodic transmission: 2A.
 pub mod service2A;
-pub mod service2E;

@@ -8,16 +8,7 @@ fn read(what: &[u8], c: &Config, level: u8, len: u32, err: u32, payload: &[u8]) 
     let mut room = [0u8; 4353];
     let pool = [0x5Au8; 300];
     let values = [0xF190u32, 0, 0, len, 0xF191, err, 10, 1];
-    let spoken = transmission::service22::service22(
-        c,
-        1,
-        level,
-        0,
-        &values,
-        &pool,
-        payload,
-        &mut room,
-    );
+    let spoken = data::service22::service22(c, 1, level, 0, &values, &pool, payload, &mut room);
     let reply = spoken.reply;
     show::reply(Line::new().text(what), reply, 0x22, false, &mut room);
 }

@@ -5,16 +5,7 @@ use lines::Line;
 
 fn write(what: &[u8], c: &Config, session: u8, level: u8, payload: &[u8], err: u8, given: &[u8]) {
     let mut room = [0u8; 4353];
-    let spoken = transmission::service2E::service2E(
-        c,
-        session,
-        level,
-        0,
-        payload,
-        err,
-        given,
-        &mut room,
-    );
+    let spoken = data::service2E::service2E(c, session, level, 0, payload, err, given, &mut room);
     let reply = spoken.reply;
     let act = spoken.act;
     let a = act.a;

@@ -8,11 +8,6 @@ use Rattle.service.specs.Fitted.{fittedReply}
 use borrow.Author.Needs.{needs}
 use Rattle.management.proofs.echoed.Statement.{statement}
 use Rattle.management.proofs.echoed.Tie as tie
-use Rattle.management.proofs.echoed.Reads as reads
-use Rattle.management.proofs.echoed.Lts as lts
-use Rattle.service.proofs.acted.Reads as acted-reads
-use Rattle.uds.proofs.frame.sub_function.Reads as sub-function-reads
-use Rattle.uds.proofs.frame.suppressed.Reads as suppressed-reads
 
 -- src/lib.rt:19:9
 sub-function-requires : tie.Need-sub-function-requires

@@ -4,10 +4,6 @@ use Rattle.service.proofs.Laws.{acted-error, acted-silent, acted-said}
 use borrow.Author.Needs.{needs}
 use Rattle.service.proofs.acted.Statement.{statement}
 use Rattle.service.proofs.acted.Tie as tie
-use Rattle.service.proofs.acted.Reads as reads
-use Rattle.service.proofs.acted.Lts as lts
-use Rattle.service.proofs.joined.Reads as joined-reads
-use Rattle.service.proofs.refusal.Reads as refusal-reads
 
 -- src/lib.rt:152:9
 refusal-requires : tie.Need-refusal-requires

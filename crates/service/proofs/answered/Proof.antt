@@ -3,10 +3,6 @@ use Rattle.service.proofs.Laws.{speaks-refused, speaks-acted}
 use borrow.Author.Needs.{needs}
 use Rattle.service.proofs.answered.Statement.{statement}
 use Rattle.service.proofs.answered.Tie as tie
-use Rattle.service.proofs.answered.Reads as reads
-use Rattle.service.proofs.answered.Lts as lts
-use Rattle.service.proofs.Act.none.Reads as none-reads
-use Rattle.service.proofs.acted.Reads as acted-reads
 
 -- src/lib.rt:174:22
 enum-known-ask : tie.Need-enum-known-ask

@@ -7,8 +7,6 @@ use lib.Seq.{take-all}
 use borrow.Author.Needs.{needs}
 use Rattle.service.proofs.first.Statement.{statement}
 use Rattle.service.proofs.first.Tie as tie
-use Rattle.service.proofs.first.Reads as reads
-use Rattle.service.proofs.first.Lts as lts
 
 -- src/lib.rt:101:9
 returns : tie.Need-returns

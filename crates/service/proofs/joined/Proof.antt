@@ -5,10 +5,6 @@ use Rattle.service.proofs.Laws.{too-long, held, both-parts}
 use borrow.Author.Needs.{needs}
 use Rattle.service.proofs.joined.Statement.{statement}
 use Rattle.service.proofs.joined.Tie as tie
-use Rattle.service.proofs.joined.Reads as reads
-use Rattle.service.proofs.joined.Lts as lts
-use Rattle.queue.proofs.draft.extend.Reads as extend-reads
-use Rattle.queue.proofs.draft.said.Reads as said-reads
 
 -- src/lib.rt:134:29
 extend-requires : tie.Need-extend-requires

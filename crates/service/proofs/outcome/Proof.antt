@@ -2,8 +2,6 @@ use denote.Ref.{now}
 use Rattle.service.proofs.Laws.{an-error, too-many, the-bytes}
 use Rattle.service.proofs.outcome.Statement.{statement}
 use Rattle.service.proofs.outcome.Tie as tie
-use Rattle.service.proofs.outcome.Reads as reads
-use Rattle.service.proofs.outcome.Lts as lts
 
 -- src/lib.rt:88:9
 returns : tie.Need-returns

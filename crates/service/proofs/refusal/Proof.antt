@@ -3,8 +3,6 @@ use borrow.Author.Tests.{ne-eqb}
 use Rattle.model.specs.Reply as Rules
 use Rattle.service.proofs.refusal.Statement.{statement}
 use Rattle.service.proofs.refusal.Tie as tie
-use Rattle.service.proofs.refusal.Reads as reads
-use Rattle.service.proofs.refusal.Lts as lts
 
 -- src/lib.rt:125:9
 returns : tie.Need-returns

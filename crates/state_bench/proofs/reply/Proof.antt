@@ -1,5 +1,4 @@
 use mathlib.Core.Path.{refl}
-use borrow.Author.Needs.{needs}
 use borrow.Author.Tests.{ne-eqb}
 use Rattle.state_bench.specs.Wanted.{wanted}
 use Rattle.state_bench.proofs.reply.Statement.{statement}

@@ -2,9 +2,6 @@ use Rattle.control.proofs.Laws.{short2F, asks2F}
 use borrow.Author.Needs.{needs}
 use Rattle.control.proofs.service2F.ask2F.Statement.{statement}
 use Rattle.control.proofs.service2F.ask2F.Tie as tie
-use Rattle.control.proofs.service2F.ask2F.Reads as reads
-use Rattle.control.proofs.service2F.ask2F.Lts as lts
-use Rattle.service.proofs.Part.of.Reads as of-reads
 
 -- src/service2F.rt:20:9
 returns : tie.Need-returns

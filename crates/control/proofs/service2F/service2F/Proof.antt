@@ -11,12 +11,6 @@ use Rattle.control.specs.Later.{later2F}
 use borrow.Author.Needs.{needs}
 use Rattle.control.proofs.service2F.service2F.Statement.{statement}
 use Rattle.control.proofs.service2F.service2F.Tie as tie
-use Rattle.control.proofs.service2F.service2F.Reads as reads
-use Rattle.control.proofs.service2F.service2F.Lts as lts
-use Rattle.control.proofs.service2F.ask2F.Reads as ask2F-reads
-use Rattle.service.proofs.answered.Reads as answered-reads
-use Rattle.service.proofs.first.Reads as first-reads
-use Rattle.service.proofs.outcome.Reads as outcome-reads
 
 -- src/service2F.rt:36:9
 outcome-requires : tie.Need-outcome-requires

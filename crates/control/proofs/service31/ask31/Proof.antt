@@ -2,9 +2,6 @@ use Rattle.control.proofs.Laws.{short31, asks31}
 use borrow.Author.Needs.{needs}
 use Rattle.control.proofs.service31.ask31.Statement.{statement}
 use Rattle.control.proofs.service31.ask31.Tie as tie
-use Rattle.control.proofs.service31.ask31.Reads as reads
-use Rattle.control.proofs.service31.ask31.Lts as lts
-use Rattle.service.proofs.Part.of.Reads as of-reads
 
 -- src/service31.rt:20:9
 returns : tie.Need-returns

@@ -10,14 +10,6 @@ use Rattle.control.specs.Later.{echoed, later31}
 use borrow.Author.Needs.{needs}
 use Rattle.control.proofs.service31.service31.Statement.{statement}
 use Rattle.control.proofs.service31.service31.Tie as tie
-use Rattle.control.proofs.service31.service31.Reads as reads
-use Rattle.control.proofs.service31.service31.Lts as lts
-use Rattle.control.proofs.service31.ask31.Reads as ask31-reads
-use Rattle.service.proofs.answered.Reads as answered-reads
-use Rattle.service.proofs.outcome.Reads as outcome-reads
-use Rattle.uds.proofs.frame.byte.Reads as byte-reads
-use Rattle.uds.proofs.frame.sub_function.Reads as sub-function-reads
-use Rattle.uds.proofs.frame.suppressed.Reads as suppressed-reads
 
 -- src/service31.rt:36:9
 outcome-requires : tie.Need-outcome-requires

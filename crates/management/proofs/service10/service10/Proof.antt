@@ -9,17 +9,11 @@ use Rattle.uds.specs.Table.{rowOf}
 use Rattle.config.specs.View.{sessionAt}
 use Rattle.service.specs.Fitted.{fitted}
 use Rattle.service.specs.Seen.{asking, configured}
-use Rattle.management.proofs.Laws.{seen, serves-refused, short10, unknown10, opens10}
+use Rattle.service.proofs.Effects.{serves-refused, seen}
+use Rattle.management.proofs.Laws.{short10, unknown10, opens10}
 use borrow.Author.Needs.{needs}
 use Rattle.management.proofs.service10.service10.Statement.{statement}
 use Rattle.management.proofs.service10.service10.Tie as tie
-use Rattle.management.proofs.service10.service10.Reads as reads
-use Rattle.management.proofs.service10.service10.Lts as lts
-use Rattle.config.proofs.find_session.Reads as find-session-reads
-use Rattle.management.proofs.refused.Reads as refused-reads
-use Rattle.management.proofs.service10.timings.Reads as timings-reads
-use Rattle.service.proofs.Act.none.Reads as none-reads
-use Rattle.uds.proofs.frame.sub_function.Reads as sub-function-reads
 
 -- src/service10.rt:54:9
 refused-requires : tie.Need-refused-requires

@@ -13,13 +13,6 @@ use Rattle.management.proofs.Laws.{five}
 use borrow.Author.Needs.{needs}
 use Rattle.management.proofs.service10.timings.Statement.{statement}
 use Rattle.management.proofs.service10.timings.Tie as tie
-use Rattle.management.proofs.service10.timings.Reads as reads
-use Rattle.management.proofs.service10.timings.Lts as lts
-use Rattle.config.proofs.p2.Reads as p2-reads
-use Rattle.config.proofs.p2_ext.Reads as p2-ext-reads
-use Rattle.service.proofs.acted.Reads as acted-reads
-use Rattle.uds.proofs.frame.suppressed.Reads as suppressed-reads
-use Rattle.uds.proofs.frame.two_bytes.Reads as two-bytes-reads
 
 -- src/service10.rt:34:9
 suppressed-requires : tie.Need-suppressed-requires

@@ -2,9 +2,6 @@ use Rattle.management.proofs.Laws.{short11, asks11}
 use borrow.Author.Needs.{needs}
 use Rattle.management.proofs.service11.ask11.Statement.{statement}
 use Rattle.management.proofs.service11.ask11.Tie as tie
-use Rattle.management.proofs.service11.ask11.Reads as reads
-use Rattle.management.proofs.service11.ask11.Lts as lts
-use Rattle.service.proofs.Part.of.Reads as of-reads
 
 -- src/service11.rt:26:9
 returns : tie.Need-returns

@@ -7,14 +7,11 @@ use Rattle.model.specs.Queue as Queue
 use Rattle.model.specs.Service11.{service11}
 use Rattle.service.specs.Fitted.{fittedEffect}
 use Rattle.service.specs.Seen.{asking}
-use Rattle.management.proofs.Laws.{seen, leaves, leaves-effect, fails11, resets11}
+use Rattle.service.proofs.Effects.{leaves, leaves-effect, seen}
+use Rattle.management.proofs.Laws.{fails11, resets11}
 use borrow.Author.Needs.{needs}
 use Rattle.management.proofs.service11.reset.Statement.{statement}
 use Rattle.management.proofs.service11.reset.Tie as tie
-use Rattle.management.proofs.service11.reset.Reads as reads
-use Rattle.management.proofs.service11.reset.Lts as lts
-use Rattle.management.proofs.echoed.Reads as echoed-reads
-use Rattle.service.proofs.says.Reads as says-reads
 
 -- src/service11.rt:50:9
 echoed-requires : tie.Need-echoed-requires

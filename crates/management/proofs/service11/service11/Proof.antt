@@ -6,16 +6,10 @@ use Rattle.model.specs.Service11.{reset, service11}
 use Rattle.service.specs.Fitted.{fittedEffect}
 use Rattle.service.specs.Seen.{asking, handed}
 use Rattle.management.specs.Later.{later11}
-use Rattle.management.proofs.Laws.{seen, serves-refused, serves-acted}
+use Rattle.service.proofs.Effects.{serves-refused, serves-acted, seen}
 use borrow.Author.Needs.{needs}
 use Rattle.management.proofs.service11.service11.Statement.{statement}
 use Rattle.management.proofs.service11.service11.Tie as tie
-use Rattle.management.proofs.service11.service11.Reads as reads
-use Rattle.management.proofs.service11.service11.Lts as lts
-use Rattle.management.proofs.refused.Reads as refused-reads
-use Rattle.management.proofs.service11.ask11.Reads as ask11-reads
-use Rattle.management.proofs.service11.reset.Reads as reset-reads
-use Rattle.service.proofs.outcome.Reads as outcome-reads
 
 -- src/service11.rt:75:11
 ask11-requires : tie.Need-ask11-requires

@@ -2,9 +2,6 @@ use Rattle.management.proofs.Laws.{short28, asks28}
 use borrow.Author.Needs.{needs}
 use Rattle.management.proofs.service28.ask28.Statement.{statement}
 use Rattle.management.proofs.service28.ask28.Tie as tie
-use Rattle.management.proofs.service28.ask28.Reads as reads
-use Rattle.management.proofs.service28.ask28.Lts as lts
-use Rattle.service.proofs.Part.of.Reads as of-reads
 
 -- src/service28.rt:21:9
 returns : tie.Need-returns

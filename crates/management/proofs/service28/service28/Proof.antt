@@ -9,12 +9,6 @@ use Rattle.management.specs.Later.{later28}
 use borrow.Author.Needs.{needs}
 use Rattle.management.proofs.service28.service28.Statement.{statement}
 use Rattle.management.proofs.service28.service28.Tie as tie
-use Rattle.management.proofs.service28.service28.Reads as reads
-use Rattle.management.proofs.service28.service28.Lts as lts
-use Rattle.management.proofs.echoed.Reads as echoed-reads
-use Rattle.management.proofs.service28.ask28.Reads as ask28-reads
-use Rattle.service.proofs.Act.none.Reads as none-reads
-use Rattle.service.proofs.outcome.Reads as outcome-reads
 
 -- src/service28.rt:36:11
 ask28-requires : tie.Need-ask28-requires

@@ -9,10 +9,6 @@ use Rattle.management.proofs.Laws.{echoes3E}
 use borrow.Author.Needs.{needs}
 use Rattle.management.proofs.service3E.service3E.Statement.{statement}
 use Rattle.management.proofs.service3E.service3E.Tie as tie
-use Rattle.management.proofs.service3E.service3E.Reads as reads
-use Rattle.management.proofs.service3E.service3E.Lts as lts
-use Rattle.management.proofs.echoed.Reads as echoed-reads
-use Rattle.service.proofs.Act.none.Reads as none-reads
 
 -- src/service3E.rt:13:9
 echoed-requires : tie.Need-echoed-requires

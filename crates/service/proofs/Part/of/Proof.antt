@@ -1,8 +1,6 @@
 use Rattle.service.proofs.Laws.{nothing, something}
 use Rattle.service.proofs.Part.of.Statement.{statement}
 use Rattle.service.proofs.Part.of.Tie as tie
-use Rattle.service.proofs.Part.of.Reads as reads
-use Rattle.service.proofs.Part.of.Lts as lts
 
 -- src/lib.rt:33:13
 returns : tie.Need-returns

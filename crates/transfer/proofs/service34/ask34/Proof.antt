@@ -4,12 +4,6 @@ use Rattle.transfer.proofs.Laws.{short34, short34', asks34}
 use borrow.Author.Needs.{needs}
 use Rattle.transfer.proofs.service34.ask34.Statement.{statement}
 use Rattle.transfer.proofs.service34.ask34.Tie as tie
-use Rattle.transfer.proofs.service34.ask34.Reads as reads
-use Rattle.transfer.proofs.service34.ask34.Lts as lts
-use Rattle.service.proofs.Part.of.Reads as of-reads
-use Rattle.uds.proofs.frame.byte.Reads as byte-reads
-use Rattle.uds.proofs.frame.high_nibble.Reads as high-nibble-reads
-use Rattle.uds.proofs.frame.low_nibble.Reads as low-nibble-reads
 
 -- src/service34.rt:23:9
 returns : tie.Need-returns

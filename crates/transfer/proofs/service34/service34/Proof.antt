@@ -9,11 +9,6 @@ use Rattle.transfer.specs.Later.{later34}
 use borrow.Author.Needs.{needs}
 use Rattle.transfer.proofs.service34.service34.Statement.{statement}
 use Rattle.transfer.proofs.service34.service34.Tie as tie
-use Rattle.transfer.proofs.service34.service34.Reads as reads
-use Rattle.transfer.proofs.service34.service34.Lts as lts
-use Rattle.service.proofs.answered.Reads as answered-reads
-use Rattle.service.proofs.outcome.Reads as outcome-reads
-use Rattle.transfer.proofs.service34.ask34.Reads as ask34-reads
 
 -- src/service34.rt:44:9
 outcome-requires : tie.Need-outcome-requires

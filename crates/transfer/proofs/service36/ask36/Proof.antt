@@ -2,9 +2,6 @@ use Rattle.transfer.proofs.Laws.{short36, asks36}
 use borrow.Author.Needs.{needs}
 use Rattle.transfer.proofs.service36.ask36.Statement.{statement}
 use Rattle.transfer.proofs.service36.ask36.Tie as tie
-use Rattle.transfer.proofs.service36.ask36.Reads as reads
-use Rattle.transfer.proofs.service36.ask36.Lts as lts
-use Rattle.service.proofs.Part.of.Reads as of-reads
 
 -- src/service36.rt:20:9
 returns : tie.Need-returns

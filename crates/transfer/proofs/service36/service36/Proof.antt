@@ -11,12 +11,6 @@ use Rattle.transfer.specs.Later.{later36}
 use borrow.Author.Needs.{needs}
 use Rattle.transfer.proofs.service36.service36.Statement.{statement}
 use Rattle.transfer.proofs.service36.service36.Tie as tie
-use Rattle.transfer.proofs.service36.service36.Reads as reads
-use Rattle.transfer.proofs.service36.service36.Lts as lts
-use Rattle.service.proofs.answered.Reads as answered-reads
-use Rattle.service.proofs.outcome.Reads as outcome-reads
-use Rattle.transfer.proofs.service36.ask36.Reads as ask36-reads
-use Rattle.uds.proofs.frame.byte.Reads as byte-reads
 
 -- src/service36.rt:36:9
 outcome-requires : tie.Need-outcome-requires

@@ -2,9 +2,6 @@ use Rattle.transfer.proofs.Laws.{asks37}
 use borrow.Author.Needs.{needs}
 use Rattle.transfer.proofs.service37.ask37.Statement.{statement}
 use Rattle.transfer.proofs.service37.ask37.Tie as tie
-use Rattle.transfer.proofs.service37.ask37.Reads as reads
-use Rattle.transfer.proofs.service37.ask37.Lts as lts
-use Rattle.service.proofs.Part.of.Reads as of-reads
 
 -- src/service37.rt:20:12
 of-requires : tie.Need-of-requires

@@ -9,11 +9,6 @@ use Rattle.transfer.specs.Later.{later37}
 use borrow.Author.Needs.{needs}
 use Rattle.transfer.proofs.service37.service37.Statement.{statement}
 use Rattle.transfer.proofs.service37.service37.Tie as tie
-use Rattle.transfer.proofs.service37.service37.Reads as reads
-use Rattle.transfer.proofs.service37.service37.Lts as lts
-use Rattle.service.proofs.answered.Reads as answered-reads
-use Rattle.service.proofs.outcome.Reads as outcome-reads
-use Rattle.transfer.proofs.service37.ask37.Reads as ask37-reads
 
 -- src/service37.rt:31:9
 outcome-requires : tie.Need-outcome-requires

@@ -2,10 +2,6 @@ use Rattle.transfer.proofs.Laws.{short38, asks38}
 use borrow.Author.Needs.{needs}
 use Rattle.transfer.proofs.service38.ask38.Statement.{statement}
 use Rattle.transfer.proofs.service38.ask38.Tie as tie
-use Rattle.transfer.proofs.service38.ask38.Reads as reads
-use Rattle.transfer.proofs.service38.ask38.Lts as lts
-use Rattle.service.proofs.Part.of.Reads as of-reads
-use Rattle.transfer.proofs.service38.path_length.Reads as path-length-reads
 
 -- src/service38.rt:33:9
 returns : tie.Need-returns

@@ -3,9 +3,6 @@ use Rattle.transfer.proofs.Laws.{cut, whole}
 use borrow.Author.Needs.{needs}
 use Rattle.transfer.proofs.service38.path_length.Statement.{statement}
 use Rattle.transfer.proofs.service38.path_length.Tie as tie
-use Rattle.transfer.proofs.service38.path_length.Reads as reads
-use Rattle.transfer.proofs.service38.path_length.Lts as lts
-use Rattle.uds.proofs.frame.word.Reads as word-reads
 
 -- src/service38.rt:21:18
 word-requires : tie.Need-word-requires

@@ -9,11 +9,6 @@ use Rattle.transfer.specs.Later.{later38}
 use borrow.Author.Needs.{needs}
 use Rattle.transfer.proofs.service38.service38.Statement.{statement}
 use Rattle.transfer.proofs.service38.service38.Tie as tie
-use Rattle.transfer.proofs.service38.service38.Reads as reads
-use Rattle.transfer.proofs.service38.service38.Lts as lts
-use Rattle.service.proofs.answered.Reads as answered-reads
-use Rattle.service.proofs.outcome.Reads as outcome-reads
-use Rattle.transfer.proofs.service38.ask38.Reads as ask38-reads
 
 -- src/service38.rt:48:9
 outcome-requires : tie.Need-outcome-requires

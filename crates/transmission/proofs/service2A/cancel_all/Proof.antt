@@ -13,10 +13,6 @@ use Rattle.periodic.specs.View.{tableOf}
 use Rattle.transmission.proofs.Laws2A.{cancelled, all-cancelled, says-mode}
 use Rattle.transmission.proofs.service2A.cancel_all.Statement.{statement}
 use Rattle.transmission.proofs.service2A.cancel_all.Tie as tie
-use Rattle.transmission.proofs.service2A.cancel_all.Reads as reads
-use Rattle.transmission.proofs.service2A.cancel_all.Lts as lts
-use Rattle.service.proofs.joined.Reads as joined-reads
-use Rattle.transmission.proofs.service2A.cancel_one.Reads as cancel-one-reads
 
 abbrev Inv-loop : tie.InvT-loop
 Inv-loop subscriptions frames src mode ids subs₀ room count₀ i₀ t10 subs count i = (i ≤ length ids) × (count ≤ 16) × (cancelAll src ids (tableOf subscriptions subs₀) ≡ cancelAll src (drop i ids) (tableOf count subs))

@@ -7,10 +7,6 @@ use Rattle.model.specs.Service2A.{isSubscription}
 use Rattle.periodic.specs.View.{tableOf}
 use Rattle.transmission.proofs.service2A.cancel_one.Statement.{statement}
 use Rattle.transmission.proofs.service2A.cancel_one.Tie as tie
-use Rattle.transmission.proofs.service2A.cancel_one.Reads as reads
-use Rattle.transmission.proofs.service2A.cancel_one.Lts as lts
-use Rattle.periodic.proofs.cancel.Reads as cancel-reads
-use Rattle.uds.proofs.frame.periodic_did.Reads as periodic-did-reads
 
 periodic-did-requires : tie.Need-periodic-did-requires
 periodic-did-requires c κs = search needs

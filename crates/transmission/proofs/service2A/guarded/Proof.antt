@@ -6,10 +6,6 @@ use Rattle.service.specs.Seen.{asking, configured, inSession, receivedAt, recei
 use Rattle.transmission.proofs.Laws2A.{so, too-many, too-late, ready}
 use Rattle.transmission.proofs.service2A.guarded.Statement.{statement}
 use Rattle.transmission.proofs.service2A.guarded.Tie as tie
-use Rattle.transmission.proofs.service2A.guarded.Reads as reads
-use Rattle.transmission.proofs.service2A.guarded.Lts as lts
-use Rattle.transmission.proofs.service2A.refused.Reads as refused-reads
-use Rattle.transmission.proofs.service2A.transmission.Reads as transmission-reads
 
 refused-requires : tie.Need-refused-requires
 refused-requires c κs = search needs

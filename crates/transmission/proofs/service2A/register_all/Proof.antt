@@ -14,11 +14,6 @@ use Rattle.transmission.specs.View2A.{Every2A}
 use Rattle.transmission.proofs.Laws2A.{next, all-done, so, says-always, says-mode}
 use Rattle.transmission.proofs.service2A.register_all.Statement.{statement}
 use Rattle.transmission.proofs.service2A.register_all.Tie as tie
-use Rattle.transmission.proofs.service2A.register_all.Reads as reads
-use Rattle.transmission.proofs.service2A.register_all.Lts as lts
-use Rattle.service.proofs.joined.Reads as joined-reads
-use Rattle.transmission.proofs.service2A.refused.Reads as refused-reads
-use Rattle.transmission.proofs.service2A.register_one.Reads as register-one-reads
 
 abbrev Inv-loop : tie.InvT-loop
 Inv-loop config session subscriptions frames src t mode ids subs₀ room count₀ i₀ t14 subs count i = (i ≤ length ids) × (count ≤ 16) × Every2A config session src (t .0) (λ v. registerAll v mode ids (tableOf subscriptions subs₀) ≡ registerAll v mode (drop i ids) (tableOf count subs))

@@ -13,20 +13,10 @@ use Rattle.config.specs.View.{didAt, configOf}
 use Rattle.periodic.specs.View.{tableOf}
 use Rattle.periodic.proofs.Uses.{registers}
 use Rattle.service.specs.Seen.{configured, inSession, receivedAt, receivedFrom}
-use Rattle.transmission.proofs.Laws22.{of-row}
+use Rattle.service.proofs.Rows.{of-row}
 use Rattle.transmission.proofs.Laws2A.{unreadable, stands, full, in-time, so-registered}
 use Rattle.transmission.proofs.service2A.register_one.Statement.{statement}
 use Rattle.transmission.proofs.service2A.register_one.Tie as tie
-use Rattle.transmission.proofs.service2A.register_one.Reads as reads
-use Rattle.transmission.proofs.service2A.register_one.Lts as lts
-use Rattle.config.proofs.find_did.Reads as find-did-reads
-use Rattle.config.proofs.min_interval.Reads as min-interval-reads
-use Rattle.config.proofs.readable_in.Reads as readable-in-reads
-use Rattle.periodic.proofs.register.Reads as register-reads
-use Rattle.uds.proofs.clock.Duration.larger.Reads as larger-reads
-use Rattle.uds.proofs.frame.periodic_did.Reads as periodic-did-reads
-use Rattle.uds.proofs.nrc.Rate.interval.Reads as interval-reads
-use Rattle.transmission.proofs.service2A.spans.Reads as spans-reads
 
 spans-requires : tie.Need-spans-requires
 spans-requires c κs = search needs

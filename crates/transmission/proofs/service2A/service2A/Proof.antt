@@ -5,11 +5,6 @@ use Rattle.transmission.specs.View2A.{guarded2A}
 use Rattle.transmission.proofs.Laws2A.{wanted}
 use Rattle.transmission.proofs.service2A.service2A.Statement.{statement}
 use Rattle.transmission.proofs.service2A.service2A.Tie as tie
-use Rattle.transmission.proofs.service2A.service2A.Reads as reads
-use Rattle.transmission.proofs.service2A.service2A.Lts as lts
-use Rattle.service.proofs.Act.none.Reads as none-reads
-use Rattle.service.proofs.says.Reads as says-reads
-use Rattle.transmission.proofs.service2A.guarded.Reads as guarded-reads
 
 guarded-requires : tie.Need-guarded-requires
 guarded-requires c κs = search needs

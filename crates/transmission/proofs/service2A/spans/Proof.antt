@@ -2,7 +2,6 @@ use native.Mathlib.Omega.{arith}
 use borrow.Author.Needs.{needs}
 use Rattle.transmission.proofs.service2A.spans.Statement.{statement}
 use Rattle.transmission.proofs.service2A.spans.Tie as tie
-use Rattle.uds.proofs.table.word.Reads as word-reads
 
 word-requires : tie.Need-word-requires
 word-requires c κs = search needs

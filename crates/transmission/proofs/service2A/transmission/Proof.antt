@@ -5,13 +5,6 @@ use Rattle.service.specs.Seen.{asking, configured, inSession, receivedAt, recei
 use Rattle.transmission.proofs.Laws2A.{so, short, cancels, zero-mode, high-mode, registers}
 use Rattle.transmission.proofs.service2A.transmission.Statement.{statement}
 use Rattle.transmission.proofs.service2A.transmission.Tie as tie
-use Rattle.transmission.proofs.service2A.transmission.Reads as reads
-use Rattle.transmission.proofs.service2A.transmission.Lts as lts
-use Rattle.transmission.proofs.service2A.cancel_all.Reads as cancel-all-reads
-use Rattle.transmission.proofs.service2A.refused.Reads as refused-reads
-use Rattle.transmission.proofs.service2A.register_all.Reads as register-all-reads
-use Rattle.uds.proofs.frame.byte.Reads as byte-reads
-use Rattle.uds.proofs.frame.payload.Reads as payload-reads
 
 refused-requires : tie.Need-refused-requires
 refused-requires c κs = search needs

@@ -1,0 +1,2 @@
+// Access: 27.
+pub mod service27;
