@@ -123,16 +123,8 @@ pub fn says(session: u8, level: u8, subscriptions: u8, reply: Reply) -> Effect
 pub fn refused(session: u8, level: u8, subscriptions: u8, code: u8) -> Wanted
     ensures { λ r. ⌜ Refuses session level subscriptions code r ⌝ }
 {
-    let reply = Reply::Negative(code);
     Wanted {
-        effect: Effect {
-            reply,
-            session,
-            level,
-            subscriptions,
-            clears_seed: false,
-            waits: false,
-        },
+        effect: says(session, level, subscriptions, Reply::Negative(code)),
         act: Act::none(),
     }
 }
