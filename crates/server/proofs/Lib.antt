@@ -1,3 +1,4 @@
 pub mod Begun
 pub mod Drained
+pub mod Asked
 pub mod Settled

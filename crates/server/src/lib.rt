@@ -2,3 +2,4 @@
 // its own arrays to the first.
 pub mod drain;
 pub mod fresh;
+pub mod request;
