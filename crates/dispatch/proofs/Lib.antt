@@ -1,1 +1,2 @@
 pub mod Routes
+pub mod Settled
