@@ -88,7 +88,7 @@ fn ask(
         line.print();
         return next;
     }
-    let rest = out[0] as usize;
+    let rest = uds::frame::byte(&out, 0) as usize;
     line.lower_hex(service::first(&out, 4 + rest)).print();
     next
 }
