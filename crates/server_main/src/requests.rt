@@ -274,7 +274,7 @@ fn refused(
     );
 }
 
-pub fn run() {
+pub(crate) fn run() {
     let c = configured();
     let fresh = SecurityState::new();
     let mut k = fresh.words;
