@@ -1,0 +1,3 @@
+pub mod None
+pub mod Asks
+pub mod Settled

@@ -1,0 +1,5 @@
+pub mod Gate
+pub mod Drained
+pub mod Asked
+pub mod Questioned
+pub mod Ended

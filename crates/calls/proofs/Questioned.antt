@@ -1,0 +1,91 @@
+-- One law for each way out of a question. It is the definition's request with nothing handed in, of which the act and 10, 6 or 2 are told.
+use Prim.Native.Nat.{ℕ}
+use mathlib.Core.Path.{_≡_, refl, ap, ap₂, sym, _∙_}
+use mathlib.Core.Bool.{Bool, true, false, not}
+use mathlib.Core.List.{List, [], _∷_}
+use mathlib.Core.Option.{some, none}
+use lib.ListN.{length}
+use lib.Dec.{leb}
+use Rattle.model.specs.Tests.{pick, memb}
+use Rattle.model.specs.Numbers.{maxFrame, maxTime}
+use Rattle.model.specs.Frame.{sidOf, payloadOf}
+use Rattle.model.specs.State as Model
+use Rattle.model.specs.Service.{Seen, noAct}
+use Rattle.model.specs.Service as Service
+use Rattle.model.specs.Request as Definition
+use Rattle.model.specs.Request.{Inbound, Answer, plain, lengthFits}
+use Rattle.model.specs.Question as Question
+use Rattle.model.specs.Question.{bare, question}
+use Rattle.model.proofs.Laws.{memb-each}
+use Rattle.model.proofs.Acts.{told}
+use Rattle.model.proofs.Leaves.Replies.{apply-gives}
+use Rattle.config.specs.View.{configOf}
+use Rattle.queue.specs.View.{modeOf}
+use Rattle.service.specs.Act.{actOf}
+use Rattle.state.specs.View.{stateOf}
+use Rattle.state.specs.declared.State.{State}
+use Rattle.dispatch.specs.Rules.{guarded}
+use Rattle.dispatch.specs.Seen.{seenOf}
+use Rattle.calls.specs.Gate.{barring}
+use Rattle.calls.specs.Request.{wantedBy}
+use Rattle.calls.specs.View.{inboundOf, askedOf}
+use Rattle.calls.specs.declared.question.Asked.{Asked}
+use Rattle.calls.proofs.Gate.{barred-so}
+use Rattle.calls.proofs.Asked.{to-none, refused-2, answers-so}
+
+-- 10 and 6 are told as they are
+barred-told : (s : Model.State) (t n : ℕ) → n ≡ barring s t → (n ≡ 0 → ⊥) → told n ≡ n
+unfolding barring
+barred-told s t n = go (Model.valid maxFrame s) (leb t maxTime)
+  where
+    go : (v b : Bool) → n ≡ pick v (pick b 0 6) 10 → (n ≡ 0 → ⊥) → told n ≡ n
+    go false b e z = rw e
+    go true false e z = rw e
+    go true true e z = absurd (z e)
+
+module _ (w : List ℕ) (s : State) (k subs heads room : List ℕ) (t src dst : ℕ) (frame : List ℕ) where
+  abbrev before : Model.State
+  before = stateOf w s k subs heads room
+
+  abbrev inbound : Inbound
+  inbound = inboundOf t src dst frame
+
+  -- what a service would see: nothing is handed in
+  abbrev pub seen : Seen
+  seen = seenOf w (s .session .«session_type») (s .session .level) (s .subscriptions) src t (payloadOf frame) 0 [] [] [] k subs
+
+  abbrev Says : ℕ → Service.Act → Type 0
+  Says n act = (r : Asked) → askedOf r ≡ record { result = n; act = act } → askedOf r ≡ question maxFrame before inbound
+
+  -- by what the request would answer
+  by-request : (n : ℕ) (a : Answer) → told (a .step .result) ≡ n → a ≡ Definition.request maxFrame before (bare inbound) → Says n (a .act)
+  unfolding question Question.askedOf
+  by-request n a e f r g = g ∙ ap (λ (m : ℕ). record { result = m; act = a .act }) (sym e) ∙ ap Question.askedOf f
+
+  pub asked-barred : (n : ℕ) → n ≡ barring before t → (n ≡ 0 → ⊥) → Says n noAct
+  unfolding Definition.request
+  asked-barred n e z = by-request n (plain (Model.step n before)) (barred-told before t n e z) (barred-so before t (λ m. plain (Model.step m before)) _ n e z)
+
+  module _ (z : 0 ≡ barring before t) where
+    pub asked-foreign : none ≡ Definition.addressed (configOf w) dst → Says 0 noAct
+    asked-foreign e = by-request 0 (plain (Model.step 0 before)) refl (to-none w s k subs heads room t src dst frame 0 [] [] [] z e)
+
+    module _ (fn : Bool) (a : some (modeOf fn) ≡ Definition.addressed (configOf w) dst) where
+      pub asked-misfit : pick (s .pending .on) false (not (lengthFits frame)) ≡ true → Says 2 noAct
+      asked-misfit e = by-request 2 (plain (Model.step 2 (Model.received before (modeOf fn) t))) refl (refused-2 w s k subs heads room t src dst frame 0 [] [] [] z fn a e)
+
+      -- what the reply meets is not told
+      asked-so : pick (s .pending .on) false (not (lengthFits frame)) ≡ false → Says 0 (wantedBy (s .pending .on) (sidOf frame) seen .act)
+      asked-so e =
+          let got = Model.received before (modeOf fn) t in
+          let x = wantedBy (s .pending .on) (sidOf frame) seen in
+          let p = Service.apply maxFrame got (pick (s .pending .on) dst src) (sidOf frame) t (x .effect) in
+          by-request 0 (record { act = x .act; step = p })
+          (memb-each (λ (n : ℕ). told n ≡ 0) (p .result) (0 ∷ 3 ∷ []) (refl, (refl, tt)) (apply-gives maxFrame got (pick (s .pending .on) dst src) (sidOf frame) t (x .effect) .result))
+          (answers-so w s k subs heads room t src dst frame 0 [] [] [] z fn a e)
+
+      pub asked-busy : s .pending .on ≡ true → pick (s .pending .on) false (not (lengthFits frame)) ≡ false → Says 0 noAct
+      asked-busy on e r g = asked-so e r (g ∙ rw on)
+
+      pub asked-idle : s .pending .on ≡ false → pick (s .pending .on) false (not (lengthFits frame)) ≡ false → Says 0 (guarded (sidOf frame) seen .act)
+      asked-idle on e r g = asked-so e r (g ∙ rw on)

@@ -1,0 +1,111 @@
+use mathlib.Core.Path.{ap, sym, _∙_}
+use denote.Ref.{now}
+use Rattle.model.specs.Service as Service
+use Rattle.calls.proofs.Questioned as Questioned
+use Rattle.calls.proofs.Questioned.{asked-barred, asked-foreign, asked-misfit, asked-busy, asked-idle}
+use borrow.Author.Needs.{needs}
+use Rattle.calls.proofs.question.question.Statement.{statement}
+use Rattle.calls.proofs.question.question.Tie as tie
+use Rattle.calls.proofs.question.question.Reads as reads
+use Rattle.calls.proofs.question.question.Lts as lts
+use Rattle.asking.proofs.asked.Reads as asked-reads
+use Rattle.calls.proofs.addressed.Reads as addressed-reads
+use Rattle.calls.proofs.barred.Reads as barred-reads
+use Rattle.calls.proofs.misfits.Reads as misfits-reads
+use Rattle.calls.proofs.question.nothing.Reads as nothing-reads
+use Rattle.uds.proofs.frame.payload.Reads as payload-reads
+use Rattle.uds.proofs.frame.sid.Reads as sid-reads
+
+-- src/question.rt:50:9
+barred-requires : tie.Need-barred-requires
+barred-requires c κs = search needs
+
+-- src/question.rt:52:9
+nothing-requires : tie.Need-nothing-requires
+nothing-requires c κs = search needs
+
+-- src/question.rt:52:9
+returns : tie.Need-returns
+returns c = let a = c .before .before .before .before .args in
+    asked-barred (now (a .config)) (a .s) (now (a .k)) (now (a .subs)) (now (a .heads)) (now (a .room)) (a .t .0) (a .src) (a .dst) (now (a .frame)) (c .before .before .barred .result) (c .before .before .barred .ensures) (c .before .if1 .taken) (c .nothing .result) (c .nothing .ensures)
+
+-- src/question.rt:54:26
+addressed-requires : tie.Need-addressed-requires
+addressed-requires c κs = search needs
+
+enum-told : tie.Need-enum-told
+enum-told c = search needs
+
+-- src/question.rt:55:9
+enum-told-2 : tie.Need-enum-told-2
+enum-told-2 c = search needs
+
+-- src/question.rt:55:9
+nothing-requires-2 : tie.Need-nothing-requires-2
+nothing-requires-2 c κs = search needs
+
+-- src/question.rt:55:9
+returns-2 : tie.Need-returns-2
+returns-2 c = let a = c .before .before .before .before .before .before .before .args in
+    asked-foreign (now (a .config)) (a .s) (now (a .k)) (now (a .subs)) (now (a .heads)) (now (a .room)) (a .t .0) (a .src) (a .dst) (now (a .frame)) (sym (c .before .before .before .before .if1 .left) ∙ c .before .before .before .before .before .barred .ensures) (rw (c .before .enum-told2 .given .1) at (c .before .before .before .addressed .ensures)) (c .nothing2 .result) (c .nothing2 .ensures)
+
+-- src/question.rt:59:8
+misfits-requires : tie.Need-misfits-requires
+misfits-requires c κs = search needs
+
+-- src/question.rt:60:9
+nothing-requires-3 : tie.Need-nothing-requires-3
+nothing-requires-3 c κs = search needs
+
+-- src/question.rt:60:9
+returns-3 : tie.Need-returns-3
+returns-3 c = let a = c .before .before .before .before .before .before .before .before .before .before .args in
+    asked-misfit (now (a .config)) (a .s) (now (a .k)) (now (a .subs)) (now (a .heads)) (now (a .room)) (a .t .0) (a .src) (a .dst) (now (a .frame)) (sym (c .before .before .before .before .before .before .before .if1 .left) ∙ c .before .before .before .before .before .before .before .before .barred .ensures) (c .before .before .before .before .enum-told .given .0 .0) (rw (c .before .before .before .before .enum-told .given .1) at (c .before .before .before .before .before .before .addressed .ensures)) (sym (c .before .before .misfits .ensures) ∙ c .before .if2 .taken) (c .nothing3 .result) (c .nothing3 .ensures)
+
+-- src/question.rt:63:9
+nothing-requires-4 : tie.Need-nothing-requires-4
+nothing-requires-4 c κs = search needs
+
+-- src/question.rt:63:9
+returns-4 : tie.Need-returns-4
+returns-4 c = let a = c .before .before .before .before .before .before .before .before .before .before .before .args in
+    asked-busy (now (a .config)) (a .s) (now (a .k)) (now (a .subs)) (now (a .heads)) (now (a .room)) (a .t .0) (a .src) (a .dst) (now (a .frame)) (sym (c .before .before .before .before .before .before .before .before .if1 .left) ∙ c .before .before .before .before .before .before .before .before .before .barred .ensures) (c .before .before .before .before .before .enum-told .given .0 .0) (rw (c .before .before .before .before .before .enum-told .given .1) at (c .before .before .before .before .before .before .before .addressed .ensures)) (c .before .if3 .taken) (sym (c .before .before .before .misfits .ensures) ∙ c .before .before .if2 .left) (c .nothing4 .result) (c .nothing4 .ensures)
+
+-- src/question.rt:71:13
+sid-requires : tie.Need-sid-requires
+sid-requires c κs = search needs
+
+-- src/question.rt:73:13
+payload-requires : tie.Need-payload-requires
+payload-requires c κs = search needs
+
+-- src/question.rt:67:14
+asked-requires : tie.Need-asked-requires
+asked-requires c κs = search needs
+
+-- src/question.rt:36:1
+returns-5 : tie.Need-returns-5
+returns-5 c = let a = c .before .before .before .before .before .before .before .before .before .before .before .before .before .before .args in
+    asked-idle (now (a .config)) (a .s) (now (a .k)) (now (a .subs)) (now (a .heads)) (now (a .room)) (a .t .0) (a .src) (a .dst) (now (a .frame)) (sym (c .before .before .before .before .before .before .before .before .before .before .before .if1 .left) ∙ c .before .before .before .before .before .before .before .before .before .before .before .before .barred .ensures) (c .before .before .before .before .before .before .before .before .enum-told .given .0 .0) (rw (c .before .before .before .before .before .before .before .before .enum-told .given .1) at (c .before .before .before .before .before .before .before .before .before .before .addressed .ensures)) (c .before .before .before .before .if3 .left) (sym (c .before .before .before .before .before .before .misfits .ensures) ∙ c .before .before .before .before .before .if2 .left) (record { act = c .asked .result; result = 0 }) (ap (λ (x : Service.Act). record { result = 0; act = x }) (rw (c .before .before .sid .ensures, c .before .payload .ensures) at (c .asked .ensures (Questioned.seen (now (a .config)) (a .s) (now (a .k)) (now (a .subs)) (now (a .heads)) (now (a .room)) (a .t .0) (a .src) (a .dst) (now (a .frame))))))
+
+pub question-spec : {M : Type 1} → statement M
+question-spec =
+    tie.close
+    (tie.spec
+    barred-requires
+    nothing-requires
+    returns
+    addressed-requires
+    enum-told
+    enum-told-2
+    nothing-requires-2
+    returns-2
+    misfits-requires
+    nothing-requires-3
+    returns-3
+    nothing-requires-4
+    returns-4
+    sid-requires
+    payload-requires
+    asked-requires
+    returns-5)

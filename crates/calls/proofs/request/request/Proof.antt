@@ -1,0 +1,111 @@
+use mathlib.Core.Path.{sym, _∙_}
+use denote.Ref.{now}
+use Rattle.calls.proofs.Asked.{barred, foreign, misfit, carried-out}
+use borrow.Author.Needs.{needs}
+use Rattle.calls.proofs.request.request.Statement.{statement}
+use Rattle.calls.proofs.request.request.Tie as tie
+use Rattle.calls.proofs.request.request.Reads as reads
+use Rattle.calls.proofs.request.request.Lts as lts
+use Rattle.calls.proofs.addressed.Reads as addressed-reads
+use Rattle.calls.proofs.barred.Reads as barred-reads
+use Rattle.calls.proofs.misfits.Reads as misfits-reads
+use Rattle.calls.proofs.request.heard.Reads as heard-reads
+use Rattle.calls.proofs.request.reply_to.Reads as reply-to-reads
+use Rattle.calls.proofs.request.unasked.Reads as unasked-reads
+use Rattle.calls.proofs.request.wanted.Reads as wanted-reads
+use Rattle.state.proofs.apply.apply.Reads as apply-reads
+use Rattle.uds.proofs.frame.sid.Reads as sid-reads
+
+-- src/request.rt:146:9
+barred-requires : tie.Need-barred-requires
+barred-requires c κs = search needs
+
+-- src/request.rt:148:9
+unasked-requires : tie.Need-unasked-requires
+unasked-requires c κs = search needs
+
+-- src/request.rt:148:9
+returns : tie.Need-returns
+returns c = let a = c .before .before .before .before .before .before .before .before .before .before .before .args in
+    barred (now (a .config)) (a .s) (now (a .k)) (now (a .subs)) (now (a .heads)) (now (a .room)) (a .t .0) (a .src) (a .dst) (now (a .frame)) (a .err) (now (a .given)) (now (a .values)) (now (a .pool)) (c .before .before .barred .result) (c .before .before .barred .ensures) (c .before .if1 .taken) (c .unasked .result) (c .unasked .ensures)
+
+-- src/request.rt:150:35
+addressed-requires : tie.Need-addressed-requires
+addressed-requires c κs = search needs
+
+-- src/request.rt:150:21
+enum-known-functional : tie.Need-enum-known-functional
+enum-known-functional c = search needs
+
+-- src/request.rt:151:9
+enum-told : tie.Need-enum-told
+enum-told c = search needs
+
+-- src/request.rt:151:9
+unasked-requires-2 : tie.Need-unasked-requires-2
+unasked-requires-2 c κs = search needs
+
+-- src/request.rt:151:9
+returns-2 : tie.Need-returns-2
+returns-2 c = let a = c .before .before .before .before .before .before .before .before .before .before .before .before .before .before .args in
+    foreign (now (a .config)) (a .s) (now (a .k)) (now (a .subs)) (now (a .heads)) (now (a .room)) (a .t .0) (a .src) (a .dst) (now (a .frame)) (a .err) (now (a .given)) (now (a .values)) (now (a .pool)) (sym (c .before .before .before .before .if1 .left) ∙ c .before .before .before .before .before .barred .ensures) (rw (c .before .enum-told .given .1) at (c .before .before .before .addressed .ensures)) (c .unasked2 .result) (c .unasked2 .ensures)
+
+-- src/request.rt:155:8
+misfits-requires : tie.Need-misfits-requires
+misfits-requires c κs = search needs
+
+-- src/request.rt:156:24
+heard-requires : tie.Need-heard-requires
+heard-requires c κs = search needs
+
+-- src/request.rt:156:9
+unasked-requires-3 : tie.Need-unasked-requires-3
+unasked-requires-3 c κs = search needs
+
+-- src/request.rt:156:9
+returns-3 : tie.Need-returns-3
+returns-3 c = let a = c .before .before .before .before .before .before .before .before .before .before .before .before .before .before .before .before .before .before .before .args in
+    misfit (now (a .config)) (a .s) (now (a .k)) (now (a .subs)) (now (a .heads)) (now (a .room)) (a .t .0) (a .src) (a .dst) (now (a .frame)) (a .err) (now (a .given)) (now (a .values)) (now (a .pool)) (sym (c .before .before .before .before .before .before .before .before .before .if1 .left) ∙ c .before .before .before .before .before .before .before .before .before .before .barred .ensures) (c .before .before .before .before .before .before .functional .given .0 .0) (rw (c .before .before .before .before .before .before .functional .given .1) at (c .before .before .before .before .before .before .before .before .addressed .ensures)) (c .before .heard .result) (sym (c .before .before .before .misfits .ensures) ∙ c .before .before .if2 .taken) (c .before .heard .ensures) (c .unasked3 .result) (c .unasked3 .ensures)
+
+-- src/request.rt:159:9
+sid-requires : tie.Need-sid-requires
+sid-requires c κs = search needs
+
+-- src/request.rt:160:9
+wanted-requires : tie.Need-wanted-requires
+wanted-requires c κs = search needs
+
+-- src/request.rt:187:9
+reply-to-requires : tie.Need-reply-to-requires
+reply-to-requires c κs = search needs
+
+-- src/request.rt:181:9
+apply-requires : tie.Need-apply-requires
+apply-requires c κs = search needs
+
+-- src/request.rt:128:1
+returns-4 : tie.Need-returns-4
+returns-4 c = let a = c .before .before .before .before .before .before .before .before .before .before .before .before .before .before .before .before .before .before .before .before .before .before .before .before .before .before .before .before .before .before .before .args in
+    carried-out (now (a .config)) (a .s) (now (a .k)) (now (a .subs)) (now (a .heads)) (now (a .room)) (a .t .0) (a .src) (a .dst) (now (a .frame)) (a .err) (now (a .given)) (now (a .values)) (now (a .pool)) (sym (c .before .before .before .before .before .before .before .before .before .before .before .before .before .before .before .before .before .before .before .before .before .if1 .left) ∙ c .before .before .before .before .before .before .before .before .before .before .before .before .before .before .before .before .before .before .before .before .before .before .barred .ensures) (c .before .before .before .before .before .before .before .before .before .before .before .before .before .before .before .before .before .before .functional .given .0 .0) (rw (c .before .before .before .before .before .before .before .before .before .before .before .before .before .before .before .before .before .before .functional .given .1) at (c .before .before .before .before .before .before .before .before .before .before .before .before .before .before .before .before .before .before .before .before .addressed .ensures)) (c .before .before .before .before .before .before .before .before .wanted .result) (c .before .before .reply-to .result) (c .before .before .before .before .before .before .before .before .before .before .before .before .sid .result) _ _ _ (c .before .apply .result) _ _ _ (sym (c .before .before .before .before .before .before .before .before .before .before .before .before .before .before .before .misfits .ensures) ∙ c .before .before .before .before .before .before .before .before .before .before .before .before .before .before .if2 .left) (c .before .before .before .before .before .before .before .before .before .before .before .before .sid .ensures) (c .before .before .reply-to .ensures) (c .before .before .before .before .before .before .before .before .wanted .ensures) (c .before .apply .ensures)
+
+pub request-spec : {M : Type 1} → statement M
+request-spec =
+    tie.close
+    (tie.spec
+    barred-requires
+    unasked-requires
+    returns
+    addressed-requires
+    enum-known-functional
+    enum-told
+    unasked-requires-2
+    returns-2
+    misfits-requires
+    heard-requires
+    unasked-requires-3
+    returns-3
+    sid-requires
+    wanted-requires
+    reply-to-requires
+    apply-requires
+    returns-4)

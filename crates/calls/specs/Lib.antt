@@ -1,0 +1,4 @@
+pub mod Gate
+pub mod Pending
+pub mod Request
+pub mod View
