@@ -1,4 +1,1 @@
 pub mod Begun
-pub mod Drained
-pub mod Asked
-pub mod Settled

@@ -1,5 +1,5 @@
-// The server: its calls, by two doors. By the first the state goes by value and all else is lent; by the second the server goes by value, and lends
-// its own arrays to the first.
+// The server by value: the state together with all that its calls are lent. Each call lends its own arrays to the lent door (crate `calls`).
 pub mod drain;
 pub mod fresh;
+pub mod pending;
 pub mod request;
