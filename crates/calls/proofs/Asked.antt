@@ -43,6 +43,8 @@ use Rattle.dispatch.specs.Rules as Rules
 use Rattle.dispatch.specs.Seen.{seenOf}
 use Rattle.calls.specs.Gate.{barring}
 use Rattle.calls.specs.Request.{addressedOf, requestOf, answerOf, Hears, wantedBy}
+use Rattle.calls.specs.declared.Address.{Address}
+use Rattle.calls.specs.declared.Address.the-variants.{By, Foreign}
 use Rattle.calls.specs.declared.request.Answered.{Answered}
 use Rattle.calls.proofs.Gate.{barred-so, let-through}
 
@@ -121,23 +123,23 @@ module _ (w : List ℕ) (s : State) (k subs heads room : List ℕ) (t src dst : 
   barred n e z = told s n (barred-so before t (λ m. plain (Model.step m before)) _ n e z)
 
   -- let through: the state is valid, and the time at most 2^48
-  module _ (z : 0 ≡ barring before t) where
+  module _ (n : ℕ) (g : n ≡ barring before t) (z : n ≡ 0) where
     v : Model.valid maxFrame before ≡ true
-    v = let-through before t z .0
+    v = let-through before t n g z .0
 
     h : t ≤ maxTime
-    h = let-through before t z .1
+    h = let-through before t n g z .1
 
     routes : (m : Option AddressMode) → m ≡ Definition.addressed (configOf w) dst → Definition.routed maxFrame before asked m ≡ Definition.request maxFrame before asked
     unfolding Definition.request
     routes m e = rw (v, le-leb t maxTime h, e)
 
-    pub to-none : none ≡ Definition.addressed (configOf w) dst → plain (Model.step 0 before) ≡ Definition.request maxFrame before asked
+    pub to-none : (x : Address) → addressedOf x ≡ Definition.addressed (configOf w) dst → x ≡ Foreign → plain (Model.step 0 before) ≡ Definition.request maxFrame before asked
     unfolding Definition.routed
-    to-none e = routes none e
+    to-none x a e = routes none (rw e at a)
 
-    pub foreign : none ≡ Definition.addressed (configOf w) dst → Gives s 0
-    foreign e = told s 0 (to-none e)
+    pub foreign : (x : Address) → addressedOf x ≡ Definition.addressed (configOf w) dst → x ≡ Foreign → Gives s 0
+    foreign x a e = told s 0 (to-none x a e)
 
     -- what 27 and 2A ask of the numbers
     ready : ready27 (configOf w) (securityOf k) t ≡ true
@@ -146,13 +148,13 @@ module _ (w : List ℕ) (s : State) (k subs heads room : List ℕ) (t src dst : 
     few : (leb (length (tableOf (s .subscriptions) subs)) maxPeriodic && leb t maxTime) ≡ true
     few = let p = valid-parts maxFrame before v in rw (le-leb (length (tableOf (s .subscriptions) subs)) maxPeriodic (within-length maxPeriodic subscriptionValid (tableOf (s .subscriptions) subs) (p .periodic)), le-leb t maxTime h)
 
-    module _ (fn : Bool) (a : some (modeOf fn) ≡ Definition.addressed (configOf w) dst) where
+    module _ (x : Address) (a : addressedOf x ≡ Definition.addressed (configOf w) dst) (fn : Bool) (to : x ≡ By fn) where
       abbrev got : Model.State
       got = received before (modeOf fn) t
 
       hears : Definition.heard maxFrame got asked (before .pending) ≡ Definition.request maxFrame before asked
       unfolding Definition.routed
-      hears = routes (some (modeOf fn)) a
+      hears = routes (some (modeOf fn)) (rw to at a)
 
       -- of no bytes, or of too many
       short : (on : Bool) (p : PendingRequest) → pick on false (not (lengthFits frame)) ≡ true → plain (Model.step 2 got) ≡ Definition.heard maxFrame got asked (pick on (some p) none)
@@ -160,11 +162,11 @@ module _ (w : List ℕ) (s : State) (k subs heads room : List ℕ) (t src dst : 
       short true p z = absurd (false≢true z)
       short false p z = rw (not-true (lengthFits frame) z)
 
-      pub refused-2 : pick (s .pending .on) false (not (lengthFits frame)) ≡ true → plain (Model.step 2 got) ≡ Definition.request maxFrame before asked
-      refused-2 z = short (s .pending .on) _ z ∙ hears
+      pub refused-2 : (b : Bool) → b ≡ pick (s .pending .on) false (not (lengthFits frame)) → b ≡ true → plain (Model.step 2 got) ≡ Definition.request maxFrame before asked
+      refused-2 b e z = short (s .pending .on) _ (sym e ∙ z) ∙ hears
 
-      pub misfit : (x : State) → pick (s .pending .on) false (not (lengthFits frame)) ≡ true → Hears s t fn x → Gives x 2
-      misfit x z q = told x 2 (ap (λ (y : Model.State). plain (Model.step 2 y)) (q .state w k subs heads room) ∙ refused-2 z)
+      pub misfit : (x : State) (b : Bool) → b ≡ pick (s .pending .on) false (not (lengthFits frame)) → b ≡ true → Hears s t fn x → Gives x 2
+      misfit x b e z q = told x 2 (ap (λ (y : Model.State). plain (Model.step 2 y)) (q .state w k subs heads room) ∙ refused-2 b e z)
 
       -- busy, or what the service wants
       carries : (on : Bool) (p : PendingRequest) → pick on false (not (lengthFits frame)) ≡ false
@@ -173,26 +175,26 @@ module _ (w : List ℕ) (s : State) (k subs heads room : List ℕ) (t src dst : 
       carries true p z = refl
       carries false p z = rw (not-false (lengthFits frame) z) (ap (Definition.carried maxFrame got (asked .inbound)) (kept-row seen ready few (sidOf frame) (findService (configOf w) (sidOf frame))))
 
-      pub answers-so : pick (s .pending .on) false (not (lengthFits frame)) ≡ false
+      pub answers-so : (b : Bool) → b ≡ pick (s .pending .on) false (not (lengthFits frame)) → b ≡ false
           → record { act = wantedBy (s .pending .on) (sidOf frame) seen .act; step = Service.apply maxFrame got (pick (s .pending .on) dst src) (sidOf frame) t (wantedBy (s .pending .on) (sidOf frame) seen .effect) } ≡ Definition.request maxFrame before asked
-      answers-so z = carries (s .pending .on) _ z ∙ hears
+      answers-so b e z = carries (s .pending .on) _ (sym e ∙ z) ∙ hears
 
-      pub carried-out : (q : Wanted) (to sid : ℕ) (k1 subs1 room1 : List ℕ) (r : Applied.Answer) (k' heads' room' : List ℕ) → pick (s .pending .on) false (not (lengthFits frame)) ≡ false → sid ≡ sidOf frame → to ≡ pick (s .pending .on) dst src
-          → Serves (wantedBy (s .pending .on) sid) seen k subs (s .frames) room q k1 subs1 room1 → Applies w s k1 heads room1 to sid t fn (q .effect) r k' heads' room'
+      pub carried-out : (q : Wanted) (dest sid : ℕ) (k1 subs1 room1 : List ℕ) (r : Applied.Answer) (k' heads' room' : List ℕ) (b : Bool) → b ≡ pick (s .pending .on) false (not (lengthFits frame)) → b ≡ false → sid ≡ sidOf frame → dest ≡ pick (s .pending .on) dst src
+          → Serves (wantedBy (s .pending .on) sid) seen k subs (s .frames) room q k1 subs1 room1 → Applies w s k1 heads room1 dest sid t fn (q .effect) r k' heads' room'
           → answerOf w (record { state = r .state; result = r .result; act = q .act }) k' subs1 heads' room' ≡ Definition.request maxFrame before asked
-      carried-out q to sid k1 subs1 room1 r k' heads' room' z d o g p =
+      carried-out q dest sid k1 subs1 room1 r k' heads' room' b m z d o g p =
           let f = effectOf (q .effect) t k1 subs1 (s .frames) room1 in
           let x = wantedBy (s .pending .on) (sidOf frame) seen in
           let same : fitted maxFrame x ≡ record { act = actOf (q .act); effect = f } = ap (λ (n : ℕ). fitted maxFrame (wantedBy (s .pending .on) n seen)) (sym d) ∙ g .served in
           let c : stepOf w r k' subs1 heads' room' ≡ Service.apply maxFrame got (pick (s .pending .on) dst src) (sidOf frame) t f =
           p .step subs1
-          ∙ ap₂ (λ (y : List Frame) (n : ℕ). Service.apply maxFrame (withQueue (received (stateOf w s k1 subs1 heads room) (modeOf fn) t) y) to sid n f) (g .unseen heads) (made-now w (pick (q .effect .waits) (s .session .«session_type») (q .effect .session)) t (valid-parts maxFrame before v .config) h)
-          ∙ lent-anew got (securityOf k) (securityOf k1) (tableOf (s .subscriptions) subs) (tableOf (s .subscriptions) subs1) f to sid t (λ y. (ap securityOf (g .kept y .0), ap (tableOf (s .subscriptions)) (g .kept y .1)))
+          ∙ ap₂ (λ (y : List Frame) (n : ℕ). Service.apply maxFrame (withQueue (received (stateOf w s k1 subs1 heads room) (modeOf fn) t) y) dest sid n f) (g .unseen heads) (made-now w (pick (q .effect .waits) (s .session .«session_type») (q .effect .session)) t (valid-parts maxFrame before v .config) h)
+          ∙ lent-anew got (securityOf k) (securityOf k1) (tableOf (s .subscriptions) subs) (tableOf (s .subscriptions) subs1) f dest sid t (λ y. (ap securityOf (g .kept y .0), ap (tableOf (s .subscriptions)) (g .kept y .1)))
           ∙ ap₂ (λ (y n : ℕ). Service.apply maxFrame got y n t f) o d in
           ap (λ (y : Model.Step). record { act = actOf (q .act); step = y }) c
           ∙ ap (λ (y : Served). record { act = y .act; step = Service.apply maxFrame got (pick (s .pending .on) dst src) (sidOf frame) t (y .effect) }) (sym same)
           ∙ ap (λ (y : Model.Step). record { act = x .act; step = y }) (fitted-apply maxFrame got (pick (s .pending .on) dst src) (sidOf frame) t (x .effect))
-          ∙ answers-so z
+          ∙ answers-so b m z
 
 -- busy, whatever is seen
 pub busy : (sid session level subscriptions src t : ℕ) (config frame : List ℕ) (err : ℕ) (given values pool k subs : List ℕ) (frames : ℕ) (room : List ℕ) (on : Bool) (q : Wanted) → on ≡ true → q .effect ≡ saysOf session level subscriptions (Always 0x21) → actOf (q .act) ≡ noAct

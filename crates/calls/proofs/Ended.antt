@@ -1,10 +1,10 @@
 -- One law for each way out of complete and fail.
 use Prim.Native.Nat.{ℕ}
 use mathlib.Core.Path.{_≡_, refl, ap, ap₂, sym, _∙_}
-use mathlib.Core.Bool.{Bool, true, false}
+use mathlib.Core.Bool.{Bool, true, false, not}
 use mathlib.Core.List.{List, []}
 use mathlib.Core.Option.{some, none}
-use borrow.Author.Tests.{le-leb}
+use borrow.Author.Tests.{le-leb, not-true, not-false}
 use Rattle.model.specs.Tests.{pick}
 use Rattle.model.specs.Numbers.{maxFrame, maxTime}
 use Rattle.model.specs.Frame.{Frame, negativeFrame}
@@ -47,45 +47,45 @@ module _ (w : List ℕ) (s : State) (k subs heads room : List ℕ) (t : ℕ) whe
     unfolding complete
     complete-barred n e z = barred-so before t (λ m. Model.step m before) _ n e z
 
-    complete-on : 0 ≡ barring before t → completed maxFrame before payload (before .pending) ≡ complete maxFrame before t payload
+    complete-on : (n : ℕ) → n ≡ barring before t → n ≡ 0 → completed maxFrame before payload (before .pending) ≡ complete maxFrame before t payload
     unfolding complete
-    complete-on z = let p = let-through before t z in rw (p .0, le-leb t maxTime (p .1))
+    complete-on n g z = let p = let-through before t n g z in rw (p .0, le-leb t maxTime (p .1))
 
-    pub complete-none : 0 ≡ barring before t → s .pending .on ≡ false → Model.step 1 before ≡ complete maxFrame before t payload
+    pub complete-none : (n : ℕ) → n ≡ barring before t → n ≡ 0 → not (s .pending .on) ≡ true → Model.step 1 before ≡ complete maxFrame before t payload
     unfolding completed
-    complete-none z e = let x : Model.step 1 before ≡ completed maxFrame before payload (before .pending) = rw e in x ∙ complete-on z
+    complete-none n g z e = let x : Model.step 1 before ≡ completed maxFrame before payload (before .pending) = rw (not-true (s .pending .on) e) in x ∙ complete-on n g z
 
-    pub completes : (p : Pushed) (r : State) (heads' room' : List ℕ) → 0 ≡ barring before t → s .pending .on ≡ true
+    pub completes : (p : Pushed) (r : State) (heads' room' : List ℕ) (n : ℕ) → n ≡ barring before t → n ≡ 0 → not (s .pending .on) ≡ false
         → View.stepOf p heads' room' ≡ Queue.confirmed maxFrame (modeOf (s .functional)) (queueOf (s .frames) heads room) (s .pending .dst) (s .pending .sid) payload → Ends s (p .count) r
         → stepOf w (record { state = r; result = p .result }) k subs heads' room' ≡ complete maxFrame before t payload
     unfolding completed confirmed
-    completes p r heads' room' z e q d =
-        let x : confirmed maxFrame (withPending before none) (s .pending .dst) (s .pending .sid) payload ≡ completed maxFrame before payload (before .pending) = rw e in
+    completes p r heads' room' n g z e q d =
+        let x : confirmed maxFrame (withPending before none) (s .pending .dst) (s .pending .sid) payload ≡ completed maxFrame before payload (before .pending) = rw (not-false (s .pending .on) e) in
         ap (Model.step (p .result)) (d .state w k subs heads room heads' room')
         ∙ ap (taken (withPending before none)) q
         ∙ x
-        ∙ complete-on z
+        ∙ complete-on n g z
 
   module _ (code : ℕ) where
     pub fail-barred : (n : ℕ) → n ≡ barring before t → (n ≡ 0 → ⊥) → Model.step n before ≡ fail maxFrame before t code
     unfolding fail
     fail-barred n e z = barred-so before t (λ m. Model.step m before) _ n e z
 
-    fail-on : 0 ≡ barring before t → failed before code (before .pending) ≡ fail maxFrame before t code
+    fail-on : (n : ℕ) → n ≡ barring before t → n ≡ 0 → failed before code (before .pending) ≡ fail maxFrame before t code
     unfolding fail
-    fail-on z = let p = let-through before t z in rw (p .0, le-leb t maxTime (p .1))
+    fail-on n g z = let p = let-through before t n g z in rw (p .0, le-leb t maxTime (p .1))
 
-    pub fail-none : 0 ≡ barring before t → s .pending .on ≡ false → Model.step 1 before ≡ fail maxFrame before t code
+    pub fail-none : (n : ℕ) → n ≡ barring before t → n ≡ 0 → not (s .pending .on) ≡ true → Model.step 1 before ≡ fail maxFrame before t code
     unfolding failed
-    fail-none z e = let x : Model.step 1 before ≡ failed before code (before .pending) = rw e in x ∙ fail-on z
+    fail-none n g z e = let x : Model.step 1 before ≡ failed before code (before .pending) = rw (not-true (s .pending .on) e) in x ∙ fail-on n g z
 
-    pub fails : (p : Pushed) (r : State) (heads' room' : List ℕ) → 0 ≡ barring before t → s .pending .on ≡ true
+    pub fails : (p : Pushed) (r : State) (heads' room' : List ℕ) (n : ℕ) → n ≡ barring before t → n ≡ 0 → not (s .pending .on) ≡ false
         → View.stepOf p heads' room' ≡ pushed (queueOf (s .frames) heads room) (s .pending .dst) (negativeFrame (s .pending .sid) code) → Ends s (p .count) r
         → stepOf w (record { state = r; result = p .result }) k subs heads' room' ≡ fail maxFrame before t code
     unfolding failed queued
-    fails p r heads' room' z e q d =
-        let x : queued (withPending before none) (s .pending .dst) (negativeFrame (s .pending .sid) code) ≡ failed before code (before .pending) = rw e in
+    fails p r heads' room' n g z e q d =
+        let x : queued (withPending before none) (s .pending .dst) (negativeFrame (s .pending .sid) code) ≡ failed before code (before .pending) = rw (not-false (s .pending .on) e) in
         ap (Model.step (p .result)) (d .state w k subs heads room heads' room')
         ∙ ap (taken (withPending before none)) q
         ∙ x
-        ∙ fail-on z
+        ∙ fail-on n g z

@@ -1,32 +1,34 @@
 -- 10, then 6: said once for every call that has a time.
 use Prim.Native.Nat.{ℕ, _≤_, _<_}
-use mathlib.Core.Path.{_≡_, refl}
-use mathlib.Core.Bool.{Bool, true, false}
+use mathlib.Core.Path.{_≡_, refl, sym, _∙_}
+use mathlib.Core.Bool.{Bool, true, false, not}
 use native.Mathlib.Omega.{arith}
 use lib.Dec.{leb}
-use borrow.Author.Tests.{le-leb, lt-leb, leb-true}
+use borrow.Author.Tests.{le-leb, lt-leb, leb-true, not-true, not-false}
 use Rattle.model.specs.Tests.{pick}
 use Rattle.model.specs.Numbers.{Moment, maxFrame, maxTime}
 use Rattle.model.specs.State.{State, valid}
 use Rattle.calls.specs.Gate.{barring}
 
 module _ (s : State) (t : Moment) where
-  pub invalid : valid maxFrame s ≡ false → 10 ≡ barring s t
-  unfolding barring
-  invalid v = rw v
+  -- by what is found of the state and the time
+  module _ (b : Bool) (found : b ≡ valid maxFrame s) where
+    pub invalid : not b ≡ true → 10 ≡ barring s t
+    unfolding barring
+    invalid z = rw (← found, not-true b z)
 
-  pub late : valid maxFrame s ≡ true → maxTime < t → 6 ≡ barring s t
-  unfolding barring
-  late v h = rw (v, lt-leb t maxTime h)
+    pub late : not b ≡ false → maxTime < t → 6 ≡ barring s t
+    unfolding barring
+    late z h = rw (← found, not-false b z, lt-leb t maxTime h)
 
-  pub in-time : valid maxFrame s ≡ true → t ≤ maxTime → 0 ≡ barring s t
-  unfolding barring
-  in-time v h = rw (v, le-leb t maxTime h)
+    pub in-time : not b ≡ false → t ≤ maxTime → 0 ≡ barring s t
+    unfolding barring
+    in-time z h = rw (← found, not-false b z, le-leb t maxTime h)
 
   -- one that is let through is valid, and in time
-  pub let-through : 0 ≡ barring s t → (valid maxFrame s ≡ true) × (t ≤ maxTime)
+  pub let-through : (n : ℕ) → n ≡ barring s t → n ≡ 0 → (valid maxFrame s ≡ true) × (t ≤ maxTime)
   unfolding barring
-  let-through = go (valid maxFrame s) (leb t maxTime) refl refl
+  let-through n g z = go (valid maxFrame s) (leb t maxTime) refl refl (sym z ∙ g)
     where
       go : (v b : Bool) → valid maxFrame s ≡ v → leb t maxTime ≡ b → _≡_ {A = ℕ} 0 (pick v (pick b 0 6) 10) → (valid maxFrame s ≡ true) × (t ≤ maxTime)
       go false b e f z = absurd (omega arith)

@@ -3,7 +3,6 @@ use Prim.Native.Nat.{ℕ}
 use mathlib.Core.Path.{_≡_, refl, ap, ap₂, sym, _∙_}
 use mathlib.Core.Bool.{Bool, true, false, not}
 use mathlib.Core.List.{List, [], _∷_}
-use mathlib.Core.Option.{some, none}
 use lib.ListN.{length}
 use lib.Dec.{leb}
 use Rattle.model.specs.Tests.{pick, memb}
@@ -22,13 +21,17 @@ use Rattle.model.proofs.Leaves.Replies.{apply-gives}
 use Rattle.config.specs.View.{configOf}
 use Rattle.queue.specs.View.{modeOf}
 use Rattle.service.specs.Act.{actOf}
+use Rattle.service.specs.declared.Act.{Act}
+use Rattle.asking.specs.Seen.{seenBy}
 use Rattle.state.specs.View.{stateOf}
 use Rattle.state.specs.declared.State.{State}
 use Rattle.dispatch.specs.Rules.{guarded}
 use Rattle.dispatch.specs.Seen.{seenOf}
 use Rattle.calls.specs.Gate.{barring}
-use Rattle.calls.specs.Request.{wantedBy}
+use Rattle.calls.specs.Request.{addressedOf, wantedBy}
 use Rattle.calls.specs.View.{inboundOf, askedOf}
+use Rattle.calls.specs.declared.Address.{Address}
+use Rattle.calls.specs.declared.Address.the-variants.{By, Foreign}
 use Rattle.calls.specs.declared.question.Asked.{Asked}
 use Rattle.calls.proofs.Gate.{barred-so}
 use Rattle.calls.proofs.Asked.{to-none, refused-2, answers-so}
@@ -51,7 +54,7 @@ module _ (w : List ℕ) (s : State) (k subs heads room : List ℕ) (t src dst : 
   inbound = inboundOf t src dst frame
 
   -- what a service would see: nothing is handed in
-  abbrev pub seen : Seen
+  abbrev seen : Seen
   seen = seenOf w (s .session .«session_type») (s .session .level) (s .subscriptions) src t (payloadOf frame) 0 [] [] [] k subs
 
   abbrev Says : ℕ → Service.Act → Type 0
@@ -66,26 +69,29 @@ module _ (w : List ℕ) (s : State) (k subs heads room : List ℕ) (t src dst : 
   unfolding Definition.request
   asked-barred n e z = by-request n (plain (Model.step n before)) (barred-told before t n e z) (barred-so before t (λ m. plain (Model.step m before)) _ n e z)
 
-  module _ (z : 0 ≡ barring before t) where
-    pub asked-foreign : none ≡ Definition.addressed (configOf w) dst → Says 0 noAct
-    asked-foreign e = by-request 0 (plain (Model.step 0 before)) refl (to-none w s k subs heads room t src dst frame 0 [] [] [] z e)
+  module _ (n : ℕ) (g : n ≡ barring before t) (z : n ≡ 0) (x : Address) (a : addressedOf x ≡ Definition.addressed (configOf w) dst) where
+    pub asked-foreign : x ≡ Foreign → Says 0 noAct
+    asked-foreign e = by-request 0 (plain (Model.step 0 before)) refl (to-none w s k subs heads room t src dst frame 0 [] [] [] n g z x a e)
 
-    module _ (fn : Bool) (a : some (modeOf fn) ≡ Definition.addressed (configOf w) dst) where
-      pub asked-misfit : pick (s .pending .on) false (not (lengthFits frame)) ≡ true → Says 2 noAct
-      asked-misfit e = by-request 2 (plain (Model.step 2 (Model.received before (modeOf fn) t))) refl (refused-2 w s k subs heads room t src dst frame 0 [] [] [] z fn a e)
+    module _ (fn : Bool) (to : x ≡ By fn) (b : Bool) (m : b ≡ pick (s .pending .on) false (not (lengthFits frame))) where
+      pub asked-misfit : b ≡ true → Says 2 noAct
+      asked-misfit e = by-request 2 (plain (Model.step 2 (Model.received before (modeOf fn) t))) refl (refused-2 w s k subs heads room t src dst frame 0 [] [] [] n g z x a fn to b m e)
 
       -- what the reply meets is not told
-      asked-so : pick (s .pending .on) false (not (lengthFits frame)) ≡ false → Says 0 (wantedBy (s .pending .on) (sidOf frame) seen .act)
+      asked-so : b ≡ false → Says 0 (wantedBy (s .pending .on) (sidOf frame) seen .act)
       asked-so e =
           let got = Model.received before (modeOf fn) t in
-          let x = wantedBy (s .pending .on) (sidOf frame) seen in
-          let p = Service.apply maxFrame got (pick (s .pending .on) dst src) (sidOf frame) t (x .effect) in
-          by-request 0 (record { act = x .act; step = p })
-          (memb-each (λ (n : ℕ). told n ≡ 0) (p .result) (0 ∷ 3 ∷ []) (refl, (refl, tt)) (apply-gives maxFrame got (pick (s .pending .on) dst src) (sidOf frame) t (x .effect) .result))
-          (answers-so w s k subs heads room t src dst frame 0 [] [] [] z fn a e)
+          let y = wantedBy (s .pending .on) (sidOf frame) seen in
+          let p = Service.apply maxFrame got (pick (s .pending .on) dst src) (sidOf frame) t (y .effect) in
+          by-request 0 (record { act = y .act; step = p })
+          (memb-each (λ (i : ℕ). told i ≡ 0) (p .result) (0 ∷ 3 ∷ []) (refl, (refl, tt)) (apply-gives maxFrame got (pick (s .pending .on) dst src) (sidOf frame) t (y .effect) .result))
+          (answers-so w s k subs heads room t src dst frame 0 [] [] [] n g z x a fn to b m e)
 
-      pub asked-busy : s .pending .on ≡ true → pick (s .pending .on) false (not (lengthFits frame)) ≡ false → Says 0 noAct
-      asked-busy on e r g = asked-so e r (g ∙ rw on)
+      pub asked-busy : b ≡ false → s .pending .on ≡ true → Says 0 noAct
+      asked-busy e on r q = asked-so e r (q ∙ rw on)
 
-      pub asked-idle : s .pending .on ≡ false → pick (s .pending .on) false (not (lengthFits frame)) ≡ false → Says 0 (guarded (sidOf frame) seen .act)
-      asked-idle on e r g = asked-so e r (g ∙ rw on)
+      -- the act that the service itself would ask
+      pub asked-idle : b ≡ false → s .pending .on ≡ false → (sid : ℕ) (payload : List ℕ) (act : Act) → sid ≡ sidOf frame → payload ≡ payloadOf frame
+          → ((v : Seen) → actOf act ≡ guarded sid (seenBy w (s .session .«session_type») (s .session .level) t payload k v) .act) → askedOf (record { act = act; result = 0 }) ≡ question maxFrame before inbound
+      asked-idle e on sid payload act i j h =
+          asked-so e (record { act = act; result = 0 }) (rw on (ap (λ (y : Service.Act). record { result = 0; act = y }) (rw (i, j) at (h seen))))

@@ -1,6 +1,4 @@
-use mathlib.Core.Path.{sym, _∙_}
 use denote.Ref.{now}
-use borrow.Author.Tests.{not-true, not-false}
 use Rattle.state.specs.View.{stateOf}
 use Rattle.calls.proofs.Gate.{invalid, late, in-time}
 use borrow.Author.Needs.{needs}
@@ -17,17 +15,17 @@ is-valid-requires c κs = search needs
 -- src/lib.rt:50:9
 returns : tie.Need-returns
 returns c = let a = c .before .before .args in
-    invalid (stateOf (now (a .config)) (a .s) (now (a .k)) (now (a .subs)) (now (a .heads)) (now (a .room))) (a .t .0) (sym (c .before .is-valid .ensures) ∙ not-true _ (c .if1 .taken))
+    invalid (stateOf (now (a .config)) (a .s) (now (a .k)) (now (a .subs)) (now (a .heads)) (now (a .room))) (a .t .0) (c .before .is-valid .result) (c .before .is-valid .ensures) (c .if1 .taken)
 
 -- src/lib.rt:53:9
 returns-2 : tie.Need-returns-2
 returns-2 c = let a = c .before .before .before .before .args in
-    late (stateOf (now (a .config)) (a .s) (now (a .k)) (now (a .subs)) (now (a .heads)) (now (a .room))) (a .t .0) (sym (c .before .before .before .is-valid .ensures) ∙ not-false _ (c .before .before .if1 .left)) (c .if2 .taken)
+    late (stateOf (now (a .config)) (a .s) (now (a .k)) (now (a .subs)) (now (a .heads)) (now (a .room))) (a .t .0) (c .before .before .before .is-valid .result) (c .before .before .before .is-valid .ensures) (c .before .before .if1 .left) (c .if2 .taken)
 
 -- src/lib.rt:38:1
 returns-3 : tie.Need-returns-3
 returns-3 c = let a = c .before .before .before .before .args in
-    in-time (stateOf (now (a .config)) (a .s) (now (a .k)) (now (a .subs)) (now (a .heads)) (now (a .room))) (a .t .0) (sym (c .before .before .before .is-valid .ensures) ∙ not-false _ (c .before .before .if1 .left)) (c .if2 .left)
+    in-time (stateOf (now (a .config)) (a .s) (now (a .k)) (now (a .subs)) (now (a .heads)) (now (a .room))) (a .t .0) (c .before .before .before .is-valid .result) (c .before .before .before .is-valid .ensures) (c .before .before .if1 .left) (c .if2 .left)
 
 pub barred-spec : {M : Type 1} → statement M
 barred-spec = tie.close (tie.spec is-valid-requires returns returns-2 returns-3)

@@ -1,6 +1,4 @@
-use mathlib.Core.Path.{sym, _∙_}
 use denote.Ref.{now}
-use borrow.Author.Tests.{not-true, not-false}
 use Rattle.calls.proofs.Ended.{complete-barred, complete-none, completes}
 use borrow.Author.Needs.{needs}
 use Rattle.calls.proofs.pending.complete.Statement.{statement}
@@ -23,7 +21,7 @@ returns c = let a = c .before .before .before .before .before .args in
 -- src/pending.rt:87:9
 returns-2 : tie.Need-returns-2
 returns-2 c = let a = c .before .before .before .before .before .before .before .before .args in
-    complete-none (now (a .config)) (a .s) (now (a .k)) (now (a .subs)) (now (a .heads)) (now (a .room)) (a .t .0) (now (a .payload)) (sym (c .before .before .before .if1 .left) ∙ c .before .before .before .before .barred .ensures) (not-true _ (c .if2 .taken))
+    complete-none (now (a .config)) (a .s) (now (a .k)) (now (a .subs)) (now (a .heads)) (now (a .room)) (a .t .0) (now (a .payload)) (c .before .before .before .before .barred .result) (c .before .before .before .before .barred .ensures) (c .before .before .before .if1 .left) (c .if2 .taken)
 
 -- src/pending.rt:92:9
 confirmed-requires : tie.Need-confirmed-requires
@@ -36,7 +34,7 @@ ended-requires c κs = search needs
 -- src/pending.rt:66:1
 returns-3 : tie.Need-returns-3
 returns-3 c = let a = c .before .before .before .before .before .before .before .before .before .before .before .before .args in
-    completes (now (a .config)) (a .s) (now (a .k)) (now (a .subs)) (now (a .heads)) (now (a .room)) (a .t .0) (now (a .payload)) (c .before .confirmed .result) (c .ended .result) (c .before .confirmed .last .1 .0) (c .before .confirmed .last .1 .1 .0) (sym (c .before .before .before .before .before .before .before .if1 .left) ∙ c .before .before .before .before .before .before .before .before .barred .ensures) (not-false _ (c .before .before .before .before .if2 .left)) (c .before .confirmed .ensures) (c .ended .ensures)
+    completes (now (a .config)) (a .s) (now (a .k)) (now (a .subs)) (now (a .heads)) (now (a .room)) (a .t .0) (now (a .payload)) (c .before .confirmed .result) (c .ended .result) (c .before .confirmed .last .1 .0) (c .before .confirmed .last .1 .1 .0) (c .before .before .before .before .before .before .before .before .barred .result) (c .before .before .before .before .before .before .before .before .barred .ensures) (c .before .before .before .before .before .before .before .if1 .left) (c .before .before .before .before .if2 .left) (c .before .confirmed .ensures) (c .ended .ensures)
 
 pub complete-spec : {M : Type 1} → statement M
 complete-spec =

@@ -1,6 +1,4 @@
-use mathlib.Core.Path.{sym, _∙_}
 use denote.Ref.{now}
-use borrow.Author.Tests.{not-true, not-false}
 use Rattle.calls.proofs.Ended.{fail-barred, fail-none, fails}
 use borrow.Author.Needs.{needs}
 use Rattle.calls.proofs.pending.fail.Statement.{statement}
@@ -23,7 +21,7 @@ returns c = let a = c .before .before .before .before .args in
 -- src/pending.rt:129:9
 returns-2 : tie.Need-returns-2
 returns-2 c = let a = c .before .before .before .before .before .before .before .args in
-    fail-none (now (a .config)) (a .s) (now (a .k)) (now (a .subs)) (now (a .heads)) (now (a .room)) (a .t .0) (a .code) (sym (c .before .before .before .if1 .left) ∙ c .before .before .before .before .barred .ensures) (not-true _ (c .if2 .taken))
+    fail-none (now (a .config)) (a .s) (now (a .k)) (now (a .subs)) (now (a .heads)) (now (a .room)) (a .t .0) (a .code) (c .before .before .before .before .barred .result) (c .before .before .before .before .barred .ensures) (c .before .before .before .if1 .left) (c .if2 .taken)
 
 -- src/pending.rt:134:9
 negative-requires : tie.Need-negative-requires
@@ -36,7 +34,7 @@ ended-requires c κs = search needs
 -- src/pending.rt:108:1
 returns-3 : tie.Need-returns-3
 returns-3 c = let a = c .before .before .before .before .before .before .before .before .before .before .before .args in
-    fails (now (a .config)) (a .s) (now (a .k)) (now (a .subs)) (now (a .heads)) (now (a .room)) (a .t .0) (a .code) (c .before .negative .result) (c .ended .result) (c .before .negative .last .1 .0) (c .before .negative .last .1 .1 .0) (sym (c .before .before .before .before .before .before .before .if1 .left) ∙ c .before .before .before .before .before .before .before .before .barred .ensures) (not-false _ (c .before .before .before .before .if2 .left)) (c .before .negative .ensures) (c .ended .ensures)
+    fails (now (a .config)) (a .s) (now (a .k)) (now (a .subs)) (now (a .heads)) (now (a .room)) (a .t .0) (a .code) (c .before .negative .result) (c .ended .result) (c .before .negative .last .1 .0) (c .before .negative .last .1 .1 .0) (c .before .before .before .before .before .before .before .before .barred .result) (c .before .before .before .before .before .before .before .before .barred .ensures) (c .before .before .before .before .before .before .before .if1 .left) (c .before .before .before .before .if2 .left) (c .before .negative .ensures) (c .ended .ensures)
 
 pub fail-spec : {M : Type 1} → statement M
 fail-spec =

@@ -1,7 +1,4 @@
-use mathlib.Core.Path.{ap, sym, _∙_}
 use denote.Ref.{now}
-use Rattle.model.specs.Service as Service
-use Rattle.calls.proofs.Questioned as Questioned
 use Rattle.calls.proofs.Questioned.{asked-barred, asked-foreign, asked-misfit, asked-busy, asked-idle}
 use borrow.Author.Needs.{needs}
 use Rattle.calls.proofs.question.question.Statement.{statement}
@@ -47,7 +44,7 @@ nothing-requires-2 c κs = search needs
 -- src/question.rt:55:9
 returns-2 : tie.Need-returns-2
 returns-2 c = let a = c .before .before .before .before .before .before .before .args in
-    asked-foreign (now (a .config)) (a .s) (now (a .k)) (now (a .subs)) (now (a .heads)) (now (a .room)) (a .t .0) (a .src) (a .dst) (now (a .frame)) (sym (c .before .before .before .before .if1 .left) ∙ c .before .before .before .before .before .barred .ensures) (rw (c .before .enum-told2 .given .1) at (c .before .before .before .addressed .ensures)) (c .nothing2 .result) (c .nothing2 .ensures)
+    asked-foreign (now (a .config)) (a .s) (now (a .k)) (now (a .subs)) (now (a .heads)) (now (a .room)) (a .t .0) (a .src) (a .dst) (now (a .frame)) (c .before .before .before .before .before .barred .result) (c .before .before .before .before .before .barred .ensures) (c .before .before .before .before .if1 .left) (c .before .before .before .addressed .result) (c .before .before .before .addressed .ensures) (c .before .enum-told2 .given .1) (c .nothing2 .result) (c .nothing2 .ensures)
 
 -- src/question.rt:59:8
 misfits-requires : tie.Need-misfits-requires
@@ -60,7 +57,7 @@ nothing-requires-3 c κs = search needs
 -- src/question.rt:60:9
 returns-3 : tie.Need-returns-3
 returns-3 c = let a = c .before .before .before .before .before .before .before .before .before .before .args in
-    asked-misfit (now (a .config)) (a .s) (now (a .k)) (now (a .subs)) (now (a .heads)) (now (a .room)) (a .t .0) (a .src) (a .dst) (now (a .frame)) (sym (c .before .before .before .before .before .before .before .if1 .left) ∙ c .before .before .before .before .before .before .before .before .barred .ensures) (c .before .before .before .before .enum-told .given .0 .0) (rw (c .before .before .before .before .enum-told .given .1) at (c .before .before .before .before .before .before .addressed .ensures)) (sym (c .before .before .misfits .ensures) ∙ c .before .if2 .taken) (c .nothing3 .result) (c .nothing3 .ensures)
+    asked-misfit (now (a .config)) (a .s) (now (a .k)) (now (a .subs)) (now (a .heads)) (now (a .room)) (a .t .0) (a .src) (a .dst) (now (a .frame)) (c .before .before .before .before .before .before .before .before .barred .result) (c .before .before .before .before .before .before .before .before .barred .ensures) (c .before .before .before .before .before .before .before .if1 .left) (c .before .before .before .before .before .before .addressed .result) (c .before .before .before .before .before .before .addressed .ensures) (c .before .before .before .before .enum-told .given .0 .0) (c .before .before .before .before .enum-told .given .1) (c .before .before .misfits .result) (c .before .before .misfits .ensures) (c .before .if2 .taken) (c .nothing3 .result) (c .nothing3 .ensures)
 
 -- src/question.rt:63:9
 nothing-requires-4 : tie.Need-nothing-requires-4
@@ -69,7 +66,7 @@ nothing-requires-4 c κs = search needs
 -- src/question.rt:63:9
 returns-4 : tie.Need-returns-4
 returns-4 c = let a = c .before .before .before .before .before .before .before .before .before .before .before .args in
-    asked-busy (now (a .config)) (a .s) (now (a .k)) (now (a .subs)) (now (a .heads)) (now (a .room)) (a .t .0) (a .src) (a .dst) (now (a .frame)) (sym (c .before .before .before .before .before .before .before .before .if1 .left) ∙ c .before .before .before .before .before .before .before .before .before .barred .ensures) (c .before .before .before .before .before .enum-told .given .0 .0) (rw (c .before .before .before .before .before .enum-told .given .1) at (c .before .before .before .before .before .before .before .addressed .ensures)) (c .before .if3 .taken) (sym (c .before .before .before .misfits .ensures) ∙ c .before .before .if2 .left) (c .nothing4 .result) (c .nothing4 .ensures)
+    asked-busy (now (a .config)) (a .s) (now (a .k)) (now (a .subs)) (now (a .heads)) (now (a .room)) (a .t .0) (a .src) (a .dst) (now (a .frame)) (c .before .before .before .before .before .before .before .before .before .barred .result) (c .before .before .before .before .before .before .before .before .before .barred .ensures) (c .before .before .before .before .before .before .before .before .if1 .left) (c .before .before .before .before .before .before .before .addressed .result) (c .before .before .before .before .before .before .before .addressed .ensures) (c .before .before .before .before .before .enum-told .given .0 .0) (c .before .before .before .before .before .enum-told .given .1) (c .before .before .before .misfits .result) (c .before .before .before .misfits .ensures) (c .before .before .if2 .left) (c .before .if3 .taken) (c .nothing4 .result) (c .nothing4 .ensures)
 
 -- src/question.rt:71:13
 sid-requires : tie.Need-sid-requires
@@ -86,7 +83,7 @@ asked-requires c κs = search needs
 -- src/question.rt:36:1
 returns-5 : tie.Need-returns-5
 returns-5 c = let a = c .before .before .before .before .before .before .before .before .before .before .before .before .before .before .args in
-    asked-idle (now (a .config)) (a .s) (now (a .k)) (now (a .subs)) (now (a .heads)) (now (a .room)) (a .t .0) (a .src) (a .dst) (now (a .frame)) (sym (c .before .before .before .before .before .before .before .before .before .before .before .if1 .left) ∙ c .before .before .before .before .before .before .before .before .before .before .before .before .barred .ensures) (c .before .before .before .before .before .before .before .before .enum-told .given .0 .0) (rw (c .before .before .before .before .before .before .before .before .enum-told .given .1) at (c .before .before .before .before .before .before .before .before .before .before .addressed .ensures)) (c .before .before .before .before .if3 .left) (sym (c .before .before .before .before .before .before .misfits .ensures) ∙ c .before .before .before .before .before .if2 .left) (record { act = c .asked .result; result = 0 }) (ap (λ (x : Service.Act). record { result = 0; act = x }) (rw (c .before .before .sid .ensures, c .before .payload .ensures) at (c .asked .ensures (Questioned.seen (now (a .config)) (a .s) (now (a .k)) (now (a .subs)) (now (a .heads)) (now (a .room)) (a .t .0) (a .src) (a .dst) (now (a .frame))))))
+    asked-idle (now (a .config)) (a .s) (now (a .k)) (now (a .subs)) (now (a .heads)) (now (a .room)) (a .t .0) (a .src) (a .dst) (now (a .frame)) (c .before .before .before .before .before .before .before .before .before .before .before .before .barred .result) (c .before .before .before .before .before .before .before .before .before .before .before .before .barred .ensures) (c .before .before .before .before .before .before .before .before .before .before .before .if1 .left) (c .before .before .before .before .before .before .before .before .before .before .addressed .result) (c .before .before .before .before .before .before .before .before .before .before .addressed .ensures) (c .before .before .before .before .before .before .before .before .enum-told .given .0 .0) (c .before .before .before .before .before .before .before .before .enum-told .given .1) (c .before .before .before .before .before .before .misfits .result) (c .before .before .before .before .before .before .misfits .ensures) (c .before .before .before .before .before .if2 .left) (c .before .before .before .before .if3 .left) (c .before .before .sid .result) (now (c .before .payload .result)) (c .asked .result) (c .before .before .sid .ensures) (c .before .payload .ensures) (c .asked .ensures)
 
 pub question-spec : {M : Type 1} → statement M
 question-spec =

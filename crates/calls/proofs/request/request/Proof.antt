@@ -48,7 +48,7 @@ unasked-requires-2 c κs = search needs
 -- src/request.rt:151:9
 returns-2 : tie.Need-returns-2
 returns-2 c = let a = c .before .before .before .before .before .before .before .before .before .before .before .before .before .before .args in
-    foreign (now (a .config)) (a .s) (now (a .k)) (now (a .subs)) (now (a .heads)) (now (a .room)) (a .t .0) (a .src) (a .dst) (now (a .frame)) (a .err) (now (a .given)) (now (a .values)) (now (a .pool)) (sym (c .before .before .before .before .if1 .left) ∙ c .before .before .before .before .before .barred .ensures) (rw (c .before .enum-told .given .1) at (c .before .before .before .addressed .ensures)) (c .unasked2 .result) (c .unasked2 .ensures)
+    foreign (now (a .config)) (a .s) (now (a .k)) (now (a .subs)) (now (a .heads)) (now (a .room)) (a .t .0) (a .src) (a .dst) (now (a .frame)) (a .err) (now (a .given)) (now (a .values)) (now (a .pool)) (c .before .before .before .before .before .barred .result) (c .before .before .before .before .before .barred .ensures) (c .before .before .before .before .if1 .left) (c .before .before .before .addressed .result) (c .before .before .before .addressed .ensures) (c .before .enum-told .given .1) (c .unasked2 .result) (c .unasked2 .ensures)
 
 -- src/request.rt:155:8
 misfits-requires : tie.Need-misfits-requires
@@ -65,7 +65,7 @@ unasked-requires-3 c κs = search needs
 -- src/request.rt:156:9
 returns-3 : tie.Need-returns-3
 returns-3 c = let a = c .before .before .before .before .before .before .before .before .before .before .before .before .before .before .before .before .before .before .before .args in
-    misfit (now (a .config)) (a .s) (now (a .k)) (now (a .subs)) (now (a .heads)) (now (a .room)) (a .t .0) (a .src) (a .dst) (now (a .frame)) (a .err) (now (a .given)) (now (a .values)) (now (a .pool)) (sym (c .before .before .before .before .before .before .before .before .before .if1 .left) ∙ c .before .before .before .before .before .before .before .before .before .before .barred .ensures) (c .before .before .before .before .before .before .functional .given .0 .0) (rw (c .before .before .before .before .before .before .functional .given .1) at (c .before .before .before .before .before .before .before .before .addressed .ensures)) (c .before .heard .result) (sym (c .before .before .before .misfits .ensures) ∙ c .before .before .if2 .taken) (c .before .heard .ensures) (c .unasked3 .result) (c .unasked3 .ensures)
+    misfit (now (a .config)) (a .s) (now (a .k)) (now (a .subs)) (now (a .heads)) (now (a .room)) (a .t .0) (a .src) (a .dst) (now (a .frame)) (a .err) (now (a .given)) (now (a .values)) (now (a .pool)) (c .before .before .before .before .before .before .before .before .before .before .barred .result) (c .before .before .before .before .before .before .before .before .before .before .barred .ensures) (c .before .before .before .before .before .before .before .before .before .if1 .left) (c .before .before .before .before .before .before .before .before .addressed .result) (c .before .before .before .before .before .before .before .before .addressed .ensures) (c .before .before .before .before .before .before .functional .given .0 .0) (c .before .before .before .before .before .before .functional .given .1) (c .before .heard .result) (c .before .before .before .misfits .result) (c .before .before .before .misfits .ensures) (c .before .before .if2 .taken) (c .before .heard .ensures) (c .unasked3 .result) (c .unasked3 .ensures)
 
 -- src/request.rt:159:9
 sid-requires : tie.Need-sid-requires
@@ -86,7 +86,7 @@ apply-requires c κs = search needs
 -- src/request.rt:128:1
 returns-4 : tie.Need-returns-4
 returns-4 c = let a = c .before .before .before .before .before .before .before .before .before .before .before .before .before .before .before .before .before .before .before .before .before .before .before .before .before .before .before .before .before .before .before .args in
-    carried-out (now (a .config)) (a .s) (now (a .k)) (now (a .subs)) (now (a .heads)) (now (a .room)) (a .t .0) (a .src) (a .dst) (now (a .frame)) (a .err) (now (a .given)) (now (a .values)) (now (a .pool)) (sym (c .before .before .before .before .before .before .before .before .before .before .before .before .before .before .before .before .before .before .before .before .before .if1 .left) ∙ c .before .before .before .before .before .before .before .before .before .before .before .before .before .before .before .before .before .before .before .before .before .before .barred .ensures) (c .before .before .before .before .before .before .before .before .before .before .before .before .before .before .before .before .before .before .functional .given .0 .0) (rw (c .before .before .before .before .before .before .before .before .before .before .before .before .before .before .before .before .before .before .functional .given .1) at (c .before .before .before .before .before .before .before .before .before .before .before .before .before .before .before .before .before .before .before .before .addressed .ensures)) (c .before .before .before .before .before .before .before .before .wanted .result) (c .before .before .reply-to .result) (c .before .before .before .before .before .before .before .before .before .before .before .before .sid .result) _ _ _ (c .before .apply .result) _ _ _ (sym (c .before .before .before .before .before .before .before .before .before .before .before .before .before .before .before .misfits .ensures) ∙ c .before .before .before .before .before .before .before .before .before .before .before .before .before .before .if2 .left) (c .before .before .before .before .before .before .before .before .before .before .before .before .sid .ensures) (c .before .before .reply-to .ensures) (c .before .before .before .before .before .before .before .before .wanted .ensures) (c .before .apply .ensures)
+    carried-out (now (a .config)) (a .s) (now (a .k)) (now (a .subs)) (now (a .heads)) (now (a .room)) (a .t .0) (a .src) (a .dst) (now (a .frame)) (a .err) (now (a .given)) (now (a .values)) (now (a .pool)) (c .before .before .before .before .before .before .before .before .before .before .before .before .before .before .before .before .before .before .before .before .before .before .barred .result) (c .before .before .before .before .before .before .before .before .before .before .before .before .before .before .before .before .before .before .before .before .before .before .barred .ensures) (c .before .before .before .before .before .before .before .before .before .before .before .before .before .before .before .before .before .before .before .before .before .if1 .left) (c .before .before .before .before .before .before .before .before .before .before .before .before .before .before .before .before .before .before .before .before .addressed .result) (c .before .before .before .before .before .before .before .before .before .before .before .before .before .before .before .before .before .before .before .before .addressed .ensures) (c .before .before .before .before .before .before .before .before .before .before .before .before .before .before .before .before .before .before .functional .given .0 .0) (c .before .before .before .before .before .before .before .before .before .before .before .before .before .before .before .before .before .before .functional .given .1) (c .before .before .before .before .before .before .before .before .wanted .result) (c .before .before .reply-to .result) (c .before .before .before .before .before .before .before .before .before .before .before .before .sid .result) (c .before .before .before .before .before .before .before .before .wanted .last .1 .1 .1 .1 .1 .1 .1 .1 .1 .1 .1 .1 .1 .1 .0) (c .before .before .before .before .before .before .before .before .wanted .last .1 .1 .1 .1 .1 .1 .1 .1 .1 .1 .1 .1 .1 .1 .1 .0) (c .before .before .before .before .before .before .before .before .wanted .last .1 .1 .1 .1 .1 .1 .1 .1 .1 .1 .1 .1 .1 .1 .1 .1 .0) (c .before .apply .result) (c .before .apply .last .1 .1 .0) (c .before .apply .last .1 .1 .1 .0) (c .before .apply .last .1 .1 .1 .1 .0) (c .before .before .before .before .before .before .before .before .before .before .before .before .before .before .before .misfits .result) (c .before .before .before .before .before .before .before .before .before .before .before .before .before .before .before .misfits .ensures) (c .before .before .before .before .before .before .before .before .before .before .before .before .before .before .if2 .left) (c .before .before .before .before .before .before .before .before .before .before .before .before .sid .ensures) (c .before .before .reply-to .ensures) (c .before .before .before .before .before .before .before .before .wanted .ensures) (c .before .apply .ensures)
 
 pub request-spec : {M : Type 1} → statement M
 request-spec =
