@@ -35,7 +35,7 @@ use Rattle.state.proofs.apply.apply.Reads as apply
 use Rattle.state.proofs.valid.is_valid.Reads as is-valid
 
 -- a session record is all seen
-session : {r r' : SessionState} → sessionOf r ≡ sessionOf r' → r ≡ r'
+pub session : {r r' : SessionState} → sessionOf r ≡ sessionOf r' → r ≡ r'
 session e = ap made e
   where
     made : Session → SessionState
@@ -153,7 +153,7 @@ pub record SameAnswer (config : List ℕ) (r r' : Applied.Answer) (k k' heads he
   pub seed : (i : ℕ) → seedAt k i ≡ seedAt k' i
 
 -- a seed that is cleared has no byte left, and else every word is as it was
-cleared-alike : (clears : Bool) (k k' k'' : List ℕ) → ClearsIf k clears k' → ClearsIf k clears k'' → (i : ℕ) → seedAt k' i ≡ seedAt k'' i
+pub cleared-alike : (clears : Bool) (k k' k'' : List ℕ) → ClearsIf k clears k' → ClearsIf k clears k'' → (i : ℕ) → seedAt k' i ≡ seedAt k'' i
 cleared-alike true k k' k'' a b i = a .overwritten refl i ∙ sym (b .overwritten refl i)
 cleared-alike false k k' k'' a b i = ap (λ (w : List ℕ). seedAt w i) (a .kept refl ∙ sym (b .kept refl))
 

@@ -4,14 +4,14 @@ use mathlib.Core.Path.{_≡_, refl, ap, ap₂, sym, _∙_}
 use mathlib.Core.Bool.{Bool, true, false, false≢true}
 use mathlib.Core.List.{List}
 use mathlib.Core.Option.{Option, some, none}
-use lib.Dec.{leb, ltb}
+use lib.Dec.{ltb}
 use borrow.Author.Tests.{eq-eqb, ne-eqb}
 use Rattle.model.specs.Tests.{pick}
 use Rattle.model.specs.Numbers.{Moment}
 use Rattle.model.specs.Config.{findSession, s3Of, p2ExtOf}
 use Rattle.model.specs.Frame.{negativeFrame}
 use Rattle.model.specs.State as Model
-use Rattle.model.specs.State.{Session, Security, Step, step, opened, cleared, withPending}
+use Rattle.model.specs.State.{Session, Security, step, opened, cleared, withPending}
 use Rattle.model.specs.Queue.{QueueStep, pushed}
 use Rattle.model.specs.Reply.{taken, begun}
 use Rattle.model.specs.Tick.{s3}

@@ -1,12 +1,11 @@
 -- The due subscriptions: a frame, an entry, a turn of the walk, one law for each way out.
 use Prim.Native.Nat.{ℕ, zero, suc, _+_, _-_, _%_, _≤_, _<_}
 use mathlib.Core.Path.{_≡_, refl, ap, ap₂, sym, _∙_}
-use mathlib.Core.Bool.{Bool, true, false, _&&_}
+use mathlib.Core.Bool.{Bool, true, false}
 use mathlib.Core.List.{List, [], _∷_, _++_, append-nil, append-assoc}
 use native.Mathlib.Omega.{arith}
-use native.Mathlib.Numerals.{add-one}
 use lib.ListN.{length, take, drop}
-use lib.Dec.{eqb, leb, ltb}
+use lib.Dec.{leb, ltb}
 use borrow.Author.Tests.{ne-eqb, eq-eqb, lt-ltb, leb-false}
 use Rattle.model.specs.Tests.{pick}
 use Rattle.model.specs.Numbers.{Moment, maxFrame, maxOutbox, maxPeriodic}
@@ -15,14 +14,13 @@ use Rattle.model.specs.Values.{Table, value}
 use Rattle.model.specs.Frame.{Frame}
 use Rattle.model.specs.State.{Subscription}
 use Rattle.model.specs.Queue.{QueueStep, leaves, pushed, sent, negative}
-use Rattle.model.specs.Service22.{Reading, going, ended, appended}
-use Rattle.model.specs.Tick.{Passed, stopped, went, advanced, passed, dueSent}
+use Rattle.model.specs.Service22.{going, ended}
+use Rattle.model.specs.Tick.{Passed, passed, dueSent}
 use Rattle.model.proofs.Laws.{either}
 use Rattle.uds.specs.Clock.{starts}
 use Rattle.uds.specs.Table.{tab}
 use Rattle.uds.proofs.Tab.{tab-cons, tab-end, tab-same, tab-snoc, tab-all}
 use Rattle.queue.specs.View.{queueOf, draftOf, stepOf, Drafts}
-use Rattle.queue.specs.declared.draft.Drafted.{Drafted}
 use Rattle.queue.specs.declared.draft.Drafted.the-variants.{Going, TooLong}
 use Rattle.queue.specs.declared.reply.Pushed.{Pushed}
 use Rattle.queue.proofs.Laws.{sent-long}

@@ -48,14 +48,14 @@ loop-again c = let a = c .before .before .before .before .before .before .before
     (omega arith, l .inv .1, l .inv .2, not-due maxFrame (a .t .0) (Values.tableOf (now (a .values)) (now (a .pool))) (entryAt (l .subs)) (a .count) (l .i) _ _ (l .inv .3) (omega arith) (judged (a .count) (l .i) (l .subs) (a .t .0) false (omega arith) (sym (not-true _ (c .if2 .taken)) ∙ c .before .due .ensures)))
 
 send-entry-requires : tie.Need-send-entry-requires Inv-loop μ-loop
-send-entry-requires c κs = search needs
+send-entry-requires c κs = (omega arith, omega arith)
 
 returns-2 : tie.Need-returns-2 Inv-loop μ-loop
 returns-2 c = let a = c .before .before .before .before .before .before .before .before .before .before .before .before .before .before .args in
     let l = c .before .before .before .before .before .before .before .before .before .before .loop in
     all-passed (now (a .subs)) (a .count) (a .frames) (now (a .heads)) (now (a .room)) (a .t .0) (Values.tableOf (now (a .values)) (now (a .pool))) (c .before .before .send-entry .result) (c .before .before .send-entry .last .0) (c .before .before .send-entry .last .1 .1 .1 .1 .0) (c .before .before .send-entry .last .1 .1 .1 .1 .1 .0) (omega arith)
     (ends maxFrame (a .t .0) (Values.tableOf (now (a .values)) (now (a .pool))) (entryAt (l .subs)) (a .count) (l .i) _ _ (l .inv .3) (omega arith) (judged (a .count) (l .i) (l .subs) (a .t .0) true (omega arith) (sym (not-false _ (c .before .before .before .before .before .before .if2 .left)) ∙ c .before .before .before .before .before .before .before .due .ensures))
-    (entryAt (c .before .before .send-entry .last .0)) (c .before .before .send-entry .ensures .others) (c .before .before .send-entry .result) _ (c .before .before .send-entry .ensures .passed) (c .if3 .taken))
+    (entryAt (c .before .before .send-entry .last .0)) (c .before .before .send-entry .ensures .others) (c .before .before .send-entry .result) (queueOf (c .before .before .send-entry .result .frames) (c .before .before .send-entry .last .1 .1 .1 .1 .0) (c .before .before .send-entry .last .1 .1 .1 .1 .1 .0)) (c .before .before .send-entry .ensures .passed) (c .if3 .taken))
 
 add-i-2 : tie.Need-add-i-2 Inv-loop μ-loop
 add-i-2 c = search needs
@@ -65,10 +65,13 @@ loop-less-2 c = search needs
 
 loop-again-2 : tie.Need-loop-again-2 Inv-loop μ-loop
 loop-again-2 c = let a = c .before .before .before .before .before .before .before .before .before .before .before .before .before .before .args in
-    let l = c .before .before .before .before .before .before .before .before .before .before .loop in
-    (omega arith, c .if3 .left, c .before .before .send-entry .ensures .clean (c .if3 .left),
-    goes-on maxFrame (a .t .0) (Values.tableOf (now (a .values)) (now (a .pool))) (entryAt (l .subs)) (a .count) (l .i) _ _ (l .inv .3) (omega arith) (judged (a .count) (l .i) (l .subs) (a .t .0) true (omega arith) (sym (not-false _ (c .before .before .before .before .before .before .if2 .left)) ∙ c .before .before .before .before .before .before .before .due .ensures))
-    (entryAt (c .before .before .send-entry .last .0)) (c .before .before .send-entry .ensures .others) (c .before .before .send-entry .result) _ (c .before .before .send-entry .ensures .passed) (c .if3 .left) (c .before .before .send-entry .ensures .clean (c .if3 .left)))
+    let l = c .before .before .before .before .before .before .before .before .before .before .loop in (
+      omega arith,
+      c .if3 .left,
+      c .before .before .send-entry .ensures .clean (c .if3 .left),
+      goes-on maxFrame (a .t .0) (Values.tableOf (now (a .values)) (now (a .pool))) (entryAt (l .subs)) (a .count) (l .i) _ _ (l .inv .3) (omega arith) (judged (a .count) (l .i) (l .subs) (a .t .0) true (omega arith) (sym (not-false _ (c .before .before .before .before .before .before .if2 .left)) ∙ c .before .before .before .before .before .before .before .due .ensures))
+          (entryAt (c .before .before .send-entry .last .0)) (c .before .before .send-entry .ensures .others) (c .before .before .send-entry .result) (queueOf (c .before .before .send-entry .result .frames) (c .before .before .send-entry .last .1 .1 .1 .1 .0) (c .before .before .send-entry .last .1 .1 .1 .1 .1 .0)) (c .before .before .send-entry .ensures .passed) (c .if3 .left) (c .before .before .send-entry .ensures .clean (c .if3 .left)),
+    )
 
 returns-3 : tie.Need-returns-3 Inv-loop μ-loop
 returns-3 c = let a = c .before .before .before .before .before .args in
