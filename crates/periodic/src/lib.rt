@@ -18,7 +18,7 @@ use uds::table::Found;
 // Sixteen entries of four words: identifier, client, interval, next.
 pub type Subscriptions = [u64; 64];
 
-const MAX_PERIODIC: u8 = 16;
+pub const MAX_PERIODIC: u8 = 16;
 
 pub struct PeriodicEntry {
     pub identifier: u16,

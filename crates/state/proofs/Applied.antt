@@ -32,7 +32,7 @@ use Rattle.state.specs.declared.State.{State}
 use Rattle.state.specs.declared.apply.Effect.{Effect}
 use Rattle.state.specs.declared.apply.Answer.{Answer}
 use Rattle.state.specs.declared.apply.Said.{Said}
-use Rattle.state.specs.View.{sessionOf, pendingOf, beside, stateOf, stepOf, pendsOf, madeAt, Replies, effectOf, Applies}
+use Rattle.state.specs.View.{sessionOf, pendingOf, beside, stateOf, stepOf, pendsOf, madeAt, awaited, Replies, effectOf, Applies}
 
 -- a fresh state is fresh in all that it holds
 pub fresh-state : (a : SessionState) (p : PendingRequest) (n : ℕ) → sessionOf a ≡ Model.freshSession → pendingOf p ≡ none → ((w : List ℕ) → tableOf n w ≡ Model.freshPeriodic) → (config k subs heads room : List ℕ) → securityOf k ≡ Model.freshSecurity
@@ -55,6 +55,12 @@ is-pends (Negative code) e = absurd (false≢true e)
 is-pends (Always code) e = absurd (false≢true e)
 is-pends Pends e = refl
 
+-- the deadline of a request that becomes pending is now plus P2* of the session
+pub becomes-pending : (w : List ℕ) (session to sid t deadline p2 : ℕ) → p2 < 2 ^ 64 → deadline ≡ later t p2 → p2 ≡ p2ExtOf (findSession (configOf w) session)
+    → pendingOf (record { deadline = record { 0 = deadline }; dst = to; sid = sid; on = true }) ≡ awaited w session to sid t
+becomes-pending w session to sid t deadline p2 fits d e =
+    ap (λ (x : ℕ). some (record { dst = to; sid = sid; deadline = x })) (in-time t p2 deadline fits d ∙ ap (λ (x : ℕ). starts t x + x) e)
+
 module _ (w : List ℕ) (session : ℕ) (pending : PendingRequest) (frames : ℕ) (functional : Bool) (heads room : List ℕ) (to sid t : ℕ) (reply : Reply) (p : Pushed) (heads' room' : List ℕ)
     (q : Queue.stepOf p heads' room' ≡ answered maxFrame (modeOf functional) (queueOf frames heads room) to sid (replyOf reply frames room)) where
   abbrev with-pending : PendingRequest → Said
@@ -70,15 +76,13 @@ module _ (w : List ℕ) (session : ℕ) (pending : PendingRequest) (frames : ℕ
   pub reply-kept : pendsOf reply ≡ false → Replies w session pending frames functional heads room to sid t reply (with-pending pending) heads' room'
   reply-kept n = reply-taken pending (λ a k table e. not-pending (beside w a k table pending functional frames heads room) to sid (madeAt w session t) frames room reply n)
 
-  -- one that does sets the deadline to now plus P2* of the session
-  pub reply-pends : (deadline p2 : ℕ) → pendsOf reply ≡ true → p2 < 2 ^ 64 → deadline ≡ later t p2 → p2 ≡ p2ExtOf (findSession (configOf w) session)
-      → Replies w session pending frames functional heads room to sid t reply (with-pending (record { deadline = record { 0 = deadline }; dst = to; sid = sid; on = true })) heads' room'
-  reply-pends deadline p2 n fits d e =
-      let sum : deadline ≡ madeAt w session t + p2ExtOf (findSession (configOf w) session) = in-time t p2 deadline fits d ∙ ap (λ (x : ℕ). starts t x + x) e in
-      reply-taken (record { deadline = record { 0 = deadline }; dst = to; sid = sid; on = true })
+  -- one that does makes it so first
+  pub reply-pends : (x : PendingRequest) → pendsOf reply ≡ true → pendingOf x ≡ awaited w session to sid t → Replies w session pending frames functional heads room to sid t reply (with-pending x) heads' room'
+  reply-pends x n e =
+      reply-taken x
       (λ a k table z.
       let m = beside w a k table pending functional frames heads room in
-      ap (λ (x : ℕ). Model.withPending m (some (record { dst = to; sid = sid; deadline = x }))) (sum ∙ ap (λ (x : ℕ). madeAt w session t + p2ExtOf (findSession (configOf w) x)) (sym z))
+      ap (Model.withPending m) (e ∙ ap (λ (y : ℕ). some (record { dst = to; sid = sid; deadline = madeAt w session t + p2ExtOf (findSession (configOf w) y) })) (sym z))
       ∙ ap (λ (r : Reply). readied m to sid (madeAt w session t) (replyOf r frames room)) (sym (is-pends reply n)))
 
 -- an effect: in which order the reply and the change come, and whether the change is made

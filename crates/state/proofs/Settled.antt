@@ -10,7 +10,7 @@ use lib.ListN.{length}
 use lib.Dec.{eqb}
 use Rattle.model.specs.Tests.{pick}
 use Rattle.model.specs.State as Model
-use Rattle.model.specs.State.{AddressMode, physical, functional, Session, Step}
+use Rattle.model.specs.State.{AddressMode, physical, functional, Session, Step, step}
 use Rattle.uds.proofs.Promise.{Settles, Answer}
 use Rattle.uds.proofs.Settled.{said}
 use Rattle.uds.proofs.Tab.{tab-length}
@@ -29,12 +29,13 @@ use Rattle.state.proofs.SessionState.opened.Reads as opened
 use Rattle.state.proofs.PendingRequest.new.Reads as new-pending
 use Rattle.state.proofs.PendingRequest.is_valid.Reads as pending-valid
 use Rattle.state.proofs.State.new.Reads as new-state
+use Rattle.state.proofs.apply.awaiting.Reads as awaiting
 use Rattle.state.proofs.apply.replied.Reads as replied
 use Rattle.state.proofs.apply.apply.Reads as apply
 use Rattle.state.proofs.valid.is_valid.Reads as is-valid
 
 -- a session record is all seen
-session : {r r' : SessionState} → sessionOf r ≡ sessionOf r' → r ≡ r'
+pub session : {r r' : SessionState} → sessionOf r ≡ sessionOf r' → r ≡ r'
 session e = ap made e
   where
     made : Session → SessionState
@@ -76,6 +77,14 @@ new-pending-settled κs a x e y f p q = pending x y (said p q)
 
 pub pending-valid-settled : (κs : _) (a : _) → Settles (pending-valid.Post κs a) Answer
 pending-valid-settled κs a x e y f p q = said p q
+
+-- a request that becomes pending is all seen
+pub awaiting-settled : (κs : _) (a : _) → Settles (awaiting.Post κs a) Answer
+awaiting-settled κs a x e y f p q = pending x y (said p q) .request (is (x .on) refl)
+  where
+    is : (b : Bool) → x .on ≡ b → x .on ≡ true
+    is true z = z
+    is false z = absurd (Option·none-ne-some _ (rw z at p))
 
 -- how many frames wait
 as-many : (m n : ℕ) (heads heads' room room' : List ℕ) → queueOf m heads room ≡ queueOf n heads' room' → m ≡ n
@@ -120,16 +129,21 @@ pub record SameSaid (r r' : Said) (heads heads' room room' : List ℕ) : Type 0 
   pub frames : r .frames ≡ r' .frames
   pub queue : queueOf (r .frames) heads room ≡ queueOf (r' .frames) heads' room'
 
+-- in a state that is any
+pub same-said : (config : List ℕ) (at : Session) (functional : Bool) (r r' : Said) (heads heads' room room' : List ℕ)
+    → step (r .result) (beside config at Model.freshSecurity [] (r .pending) functional (r .frames) heads room) ≡ step (r' .result) (beside config at Model.freshSecurity [] (r' .pending) functional (r' .frames) heads' room')
+    → SameSaid r r' heads heads' room room'
+same-said config at fn r r' heads heads' room room' z = record {
+  result = ap (λ (m : Step). m .result) z;
+  pending = pending (r .pending) (r' .pending) (ap (λ (m : Step). m .state .pending) z);
+  frames = as-many (r .frames) (r' .frames) heads heads' room room' (ap (λ (m : Step). m .state .queue) z);
+  queue = ap (λ (m : Step). m .state .queue) z;
+}
+
 pub replied-settled : (κs : _) (a : _) → Settles (replied.Post κs a) (λ x e y f. SameSaid x y (now (e .1 .1 .1 .1 .1 .0)) (now (f .1 .1 .1 .1 .1 .0)) (now (e .1 .1 .1 .1 .1 .1 .0)) (now (f .1 .1 .1 .1 .1 .1 .0)))
 replied-settled κs a x e y f p q =
     let at : Session = record { sessionType = a .1 .0; level = 0; lastRx = 0 } in
-    let z = said (p .step at Model.freshSecurity [] refl) (q .step at Model.freshSecurity [] refl) in
-    record {
-      result = ap (λ (m : Step). m .result) z;
-      pending = pending (x .pending) (y .pending) (ap (λ (m : Step). m .state .pending) z);
-      frames = as-many (x .frames) (y .frames) (now (e .1 .1 .1 .1 .1 .0)) (now (f .1 .1 .1 .1 .1 .0)) (now (e .1 .1 .1 .1 .1 .1 .0)) (now (f .1 .1 .1 .1 .1 .1 .0)) (ap (λ (m : Step). m .state .queue) z);
-      queue = ap (λ (m : Step). m .state .queue) z;
-    }
+    same-said (now (a .0)) at (a .1 .1 .1 .1 .0) x y (now (e .1 .1 .1 .1 .1 .0)) (now (f .1 .1 .1 .1 .1 .0)) (now (e .1 .1 .1 .1 .1 .1 .0)) (now (f .1 .1 .1 .1 .1 .1 .0)) (said (p .step at Model.freshSecurity [] refl) (q .step at Model.freshSecurity [] refl))
 
 -- of an effect the result, the state, what is seen of all that is lent, and every byte of the seed
 pub record SameAnswer (config : List ℕ) (r r' : Applied.Answer) (k k' heads heads' room room' : List ℕ) : Type 0 where
@@ -139,7 +153,7 @@ pub record SameAnswer (config : List ℕ) (r r' : Applied.Answer) (k k' heads he
   pub seed : (i : ℕ) → seedAt k i ≡ seedAt k' i
 
 -- a seed that is cleared has no byte left, and else every word is as it was
-cleared-alike : (clears : Bool) (k k' k'' : List ℕ) → ClearsIf k clears k' → ClearsIf k clears k'' → (i : ℕ) → seedAt k' i ≡ seedAt k'' i
+pub cleared-alike : (clears : Bool) (k k' k'' : List ℕ) → ClearsIf k clears k' → ClearsIf k clears k'' → (i : ℕ) → seedAt k' i ≡ seedAt k'' i
 cleared-alike true k k' k'' a b i = a .overwritten refl i ∙ sym (b .overwritten refl i)
 cleared-alike false k k' k'' a b i = ap (λ (w : List ℕ). seedAt w i) (a .kept refl ∙ sym (b .kept refl))
 

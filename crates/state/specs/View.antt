@@ -1,5 +1,5 @@
 -- From the program's records, and from what is lent beside them, to the definition's state.
-use Prim.Native.Nat.{ℕ}
+use Prim.Native.Nat.{ℕ, _+_}
 use mathlib.Core.Path.{_≡_}
 use mathlib.Core.Bool.{Bool, true, false, _&&_}
 use lib.Dec.{eqb}
@@ -62,6 +62,10 @@ pendsOf Pends = true
 -- when a reply is made: now, but that 0x78 falls due again on the clock
 abbrev pub madeAt : List ℕ → ℕ → Moment → Moment
 madeAt config session t = starts t (p2ExtOf (findSession (configOf config) session))
+
+-- a request that becomes pending in a session: the deadline is P2* later, on the clock
+abbrev pub awaited : List ℕ → ℕ → ℕ → ℕ → Moment → Option Model.PendingRequest
+awaited config session to sid t = some (record { dst = to; sid = sid; deadline = madeAt config session t + p2ExtOf (findSession (configOf config) session) })
 
 -- a reply carried out in a session, whatever else the state holds
 pub record Replies (config : List ℕ) (session : ℕ) (pending : PendingRequest) (frames : ℕ) (functional : Bool) (heads room : List ℕ) (to sid t : ℕ) (reply : Reply) (r : Said) (heads' room' : List ℕ) : Type 0 where

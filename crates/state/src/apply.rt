@@ -3,7 +3,7 @@ ghost use mathlib.Core.Path.{_≡_};
 ghost use mathlib.Core.Bool.{true, _&&_};
 ghost use lib.Dec.{eqb};
 ghost use Rattle.model.specs.Tests.{pick};
-ghost use Rattle.state.specs.View.{pendsOf, Replies, Applies};
+ghost use Rattle.state.specs.View.{pendingOf, pendsOf, awaited, Replies, Applies};
 use super::PendingRequest;
 use super::SessionState;
 use super::State;
@@ -53,8 +53,20 @@ fn pends(reply: Reply) -> bool
     }
 }
 
-// A reply, to whom, for which service, when. One that pends makes the request pending first: 0x78 is due again P2* of the session later, or at
-// the clock's end.
+// The request is pending: 0x78 is due again P2* of the session later, or at the clock's end.
+pub fn awaiting(config: &Config, session: u8, to: u32, sid: u8, t: Instant) -> PendingRequest
+    ensures { λ r. ⌜ pendingOf r ≡ awaited (now (config .entry)) session to sid (t .0) ⌝ }
+{
+    let found = config::find_session(config, session);
+    PendingRequest {
+        deadline: t.plus(config::p2_ext(config, found)),
+        dst: to,
+        sid,
+        on: true,
+    }
+}
+
+// A reply, to whom, for which service, when. One that pends makes the request pending first.
 pub fn replied(
     config: &Config,
     session: u8,
@@ -78,15 +90,8 @@ pub fn replied(
             result: p.result,
         };
     }
-    let found = config::find_session(config, session);
-    let deadline = t.plus(config::p2_ext(config, found));
     Said {
-        pending: PendingRequest {
-            deadline,
-            dst: to,
-            sid,
-            on: true,
-        },
+        pending: awaiting(config, session, to, sid, t),
         frames: p.count,
         result: p.result,
     }
