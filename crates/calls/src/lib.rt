@@ -24,6 +24,7 @@ pub mod drain;
 pub mod pending;
 pub mod question;
 pub mod request;
+pub mod tick;
 
 // A frame that is received has at most so many bytes.
 const MAX_REQUEST: usize = 4095;
