@@ -3,6 +3,7 @@ pub mod Replies
 pub mod Results
 pub mod Periodic
 pub mod Tick
+pub mod Room
 use Prim.Native.Nat.{ℕ, _≤_, _<_}
 use mathlib.Core.Path.{_≡_, refl}
 use mathlib.Core.Bool.{Bool, true, false, _&&_, true≢false, and-false}
