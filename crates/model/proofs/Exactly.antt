@@ -23,22 +23,22 @@ use Rattle.model.proofs.Laws.{either, either-by, Each, memb-each}
 use Rattle.model.proofs.Leaves.{Misfit, request-2, request-2-only, call-results}
 use Rattle.model.proofs.Leaves.Results.{mayGive}
 use Rattle.model.proofs.Valid.Parts.{valid-parts}
--- every call: 10, and 6 if it has a time
+-- every call: 10, and 6 if it has a time; 0 is `exactly-0` below
 pub use Rattle.model.proofs.Leaves.{exactly-10, exactly-6}
 pub use Rattle.model.proofs.Leaves.Results.{call-10, call-6}
--- a request: 2 (exactly when: below), 3, and what 0 leaves
+-- a request: 2, given exactly by `request-2-exactly` below; 3; what 0 leaves
 pub use Rattle.model.proofs.Leaves.{request-2-leaves}
 pub use Rattle.model.proofs.Leaves.Room.{request-3-exactly, request-3-leaves, reset-3-leaves, request-else}
--- a question changes nothing, and says the act of the request: 2 (below)
+-- a question: 2, by `question-2-exactly` and `question-2-leaves` below; 0 says the request's act. It changes nothing
 pub use Rattle.model.proofs.Acts.{question-act}
--- a tick: 3, in two ways, 4, 8, and what 0 leaves
+-- a tick: 3, by its pending step or by a due frame; 4; 8; what 0 leaves
 pub use Rattle.model.proofs.Leaves.Tick.{tick-3-exactly, tick-3-leaves, tick-3, tick-4-exactly, tick-4, tick-8-exactly, tick-8, tick-0-leaves}
--- complete and fail: 1, 3, and what 0 leaves
-pub use Rattle.model.proofs.Leaves.{complete-1, complete-1-leaves, fail-1, fail-1-leaves}
+-- complete and fail: 1; 3; what 0 leaves
+pub use Rattle.model.proofs.Leaves.{complete-1, complete-1-leaves, complete-3, fail-1, fail-1-leaves, fail-3}
 pub use Rattle.model.proofs.Leaves.Room.{complete-3-exactly, complete-3-leaves, complete-else, fail-3-exactly, fail-3-leaves, fail-else}
--- a drain: 5 (what 0 leaves: below)
+-- a drain: 5; what 0 leaves is `drain-0-leaves` below
 pub use Rattle.model.proofs.Leaves.{drain-5, drain-5-leaves}
--- fresh: 7 (0: below)
+-- fresh: 7; 0 is `fresh-0` and `fresh-0-leaves` below
 pub use Rattle.model.proofs.Leaves.{fresh-7, fresh-7-leaves}
 
 -- one of some numbers, and none of those behind the first, is the first

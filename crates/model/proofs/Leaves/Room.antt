@@ -182,7 +182,9 @@ module _ (limit : ℕ) (s : State) (r : Request) where
 
       go : (t : Bool) → eqb sid 0x11 ≡ t → Waits a
       go true e = rw (eqb-true sid 0x11 e) (waits-11 o)
-      go false e = stays (change (at-guarded (Left v) v (untouched v) sid o .waits)) (rw (ne-eqb (a .act .number) 0x11 (other (at-guarded (λ x b. Placed (suc (length (v .payload))) x (b .act)) v (placed-each v) sid o .number))))
+      go false e =
+          stays (change (at-guarded (Left v) v (untouched v) sid o .waits))
+          (rw (ne-eqb (a .act .number) 0x11 (other (at-guarded (λ x b. Placed (suc (length (v .payload))) x (b .act)) v (placed-each v) sid o .number))))
         where
           change : (a .effect .waits ≡ false) ⊎ (sid ≡ 0x11) → a .effect .waits ≡ false
           change (inl z) = z

@@ -1,4 +1,4 @@
--- 8, 4 and 3 of a tick: given exactly when, and what they leave.
+-- 8, 4 and 3 of a tick: given exactly when, and what they leave; and what 0 leaves.
 use Prim.Native.Nat.{ℕ, suc, _≤_, _<_, _%_}
 use mathlib.Core.Path.{_≡_, refl, ap, sym, _∙_}
 use mathlib.Core.Bool.{Bool, true, false}
@@ -71,11 +71,11 @@ s3-queue : (s : State) (now : Moment) → s3 s now .queue ≡ s .queue
 unfolding s3
 s3-queue s now = either (λ (u : State). u .queue ≡ s .queue) (expired s now) refl refl
 
--- a pending step that met 3: the deadline of a pending request has come, and 16 frames wait
+-- the deadline of a pending request has come, and 16 frames wait
 abbrev pub Overdue : State → Moment → Option PendingRequest → Type 0
 Overdue s now o = (p : PendingRequest) × (o ≡ some p) × (p .deadline ≤ now) × (maxOutbox ≤ length (s .queue))
 
--- it meets 3 exactly so
+-- exactly then the pending step meets 3
 refreshed-3 : (s : State) (now : Moment) (o : Option PendingRequest) → (refreshed s now o .result ≡ 3) ↔ Overdue s now o
 unfolding refreshed begun queued
 refreshed-3 s now o = (there o, λ k. rw (k .1, le-leb (k .0 .deadline) now (k .2)) (full (k .0) .1 (k .3)))
@@ -94,7 +94,7 @@ refreshed-3-leaves : (s : State) (now : Moment) (p : PendingRequest) → p .dead
 unfolding refreshed begun queued
 refreshed-3-leaves s now p d h = rw (le-leb (p .deadline) now d) (queued-full (awaiting s (p .dst) (p .sid) now) (p .dst) (negativeFrame (p .sid) 0x78) h)
 
--- so it is in a tick: S3 leaves the frames that wait
+-- and so it does after S3
 pub awake-3 : (s : State) (now : Moment) → (awake s now .result ≡ 3) ↔ Overdue s now (s .pending)
 awake-3 s now =
     let e = refreshed-3 (s3 s now) now (s .pending) in
@@ -212,7 +212,8 @@ module _ (limit : ℕ) (s : State) (now : Moment) (t : Table) (v : valid limit s
       go (inr e) = absurd (z (ap (λ (k : Ticked). k .step .result) (tick-ends e) ∙ e))
 
   -- one that gives another number than 0 then came to an entry that met it, for one of the reasons above
-  comes : (n : ℕ) → (n ≡ 0 → ⊥) → awake s now .result ≡ 0 → tick limit s now t .step .result ≡ n → (d : Comes limit s now t) × (err : ℕ) × Why limit (sofar d) n err (value limit t (d .entry .identifier))
+  comes : (n : ℕ) → (n ≡ 0 → ⊥) → awake s now .result ≡ 0 → tick limit s now t .step .result ≡ n
+      → (d : Comes limit s now t) × (err : ℕ) × Why limit (sofar d) n err (value limit t (d .entry .identifier))
   comes n z r e = go (tick-met (λ f. z (sym e ∙ f)))
     where
       u : State
