@@ -7,15 +7,15 @@ use mathlib.Core.Logic.{_↔_, _⊎_, inl, inr}
 use mathlib.Core.List.{List, [], _∷_, _++_, append-nil}
 use mathlib.Core.Option.{Option, some, none}
 use native.Mathlib.Omega.{arith}
-use lib.ListN.{length}
+use lib.ListN.{length, replicate}
 use lib.Dec.{leb, ltb, eqb}
 use borrow.Author.Tests.{ltb-true, ltb-false, le-leb, eqb-true, eqb-false, ne-eqb}
 use Rattle.model.specs.Tests.{pick}
-use Rattle.model.specs.Numbers.{Moment, maxOutbox, maxTime}
+use Rattle.model.specs.Numbers.{Moment, maxFrame, maxOutbox, maxTime}
 use Rattle.model.specs.Config.{ServiceConfig, findService, allowedIn}
-use Rattle.model.specs.Values.{Outcome, bytes, error, outcome}
+use Rattle.model.specs.Values.{Outcome, bytes, error, outcome, emptyTable}
 use Rattle.model.specs.Frame.{Frame, sidOf, payloadOf, subFunction, suppressed, positiveFrame, negativeFrame}
-use Rattle.model.specs.State.{AddressMode, PendingRequest, State, Step, step, valid, withQueue, withPending, received}
+use Rattle.model.specs.State.{AddressMode, PendingRequest, State, Step, step, freshSession, freshSecurity, freshState, valid, withQueue, withPending, withRecords, received, opened}
 use Rattle.model.specs.Queue as Queue
 use Rattle.model.specs.Queue.{QueueStep, Reply, silent, positive, negative, always, pends, leaves, pushed, withheld, refused, answered}
 use Rattle.model.specs.Reply.{taken, queued, confirmed, awaiting, replied}
@@ -23,6 +23,9 @@ use Rattle.model.specs.Service.{Seen, Act, Effect, Served, part, asks, c
 use Rattle.model.specs.Service11.{reset, service11}
 use Rattle.model.specs.Request.{Request, Answer, seen, service, guarded, served, lengthFits, heard, addressed, routed, request}
 use Rattle.model.specs.Pending.{completed, failed, complete, fail}
+use Rattle.model.specs.Fixed.{fixedConfig}
+use Rattle.model.specs.Alike.{inbound, asking}
+use Rattle.model.proofs.Open.{whole}
 use Rattle.model.proofs.Dispatch.{at-guarded}
 use Rattle.model.proofs.Laws.{either, either-by, alike}
 use Rattle.model.proofs.Places.{Placed, placed-each}
@@ -316,3 +319,21 @@ module _ (limit : ℕ) (s : State) (v : valid limit s ≡ true) where
     -- another number leaves what is left there, its frame behind those that wait
     pub request-else : (request limit s r .step .result ≡ 3 → ⊥) → request limit s r .step ≡ behind (s .queue) (request limit (withQueue s []) r .step)
     request-else = beside-else (request-beside .step)
+
+-- such requests, with 16 frames held and session 3: `11 01` gives 3 and leaves session 3; `10 01` gives 3 and leaves session 1; `11 81`, whose answer is
+-- suppressed, gives 0 and leaves session 1; and `11 01` whose act gives 78 is pending, though 78 found no room
+abbrev held : State
+held = withRecords (withQueue (freshState fixedConfig) (replicate 16 (record { dst = 3712; bytes = 0x7E ∷ 0 ∷ [] }))) (opened freshSession 3) freshSecurity []
+
+abbrev asked : List ℕ → ℕ → Step
+asked frame err = request maxFrame held (asking (inbound 5 3712 16 frame) (record { err = err; bytes = [] }) emptyTable) .step
+
+abbrev sessionAfter : Step → List ℕ
+sessionAfter p = p .result ∷ p .state .session .sessionType ∷ []
+
+pub eleven-waits : (sessionAfter (asked (0x11 ∷ 1 ∷ []) 0) ≡ 3 ∷ 3 ∷ [])
+    × (sessionAfter (asked (0x10 ∷ 1 ∷ []) 0) ≡ 3 ∷ 1 ∷ [])
+    × (sessionAfter (asked (0x11 ∷ 0x81 ∷ []) 0) ≡ 0 ∷ 1 ∷ [])
+    × (asked (0x11 ∷ 1 ∷ []) 0x78 .state .pending ≡ some (record { dst = 3712; sid = 0x11; deadline = 5005 }))
+unfolding whole
+eleven-waits = (refl, refl, refl, refl)
