@@ -174,7 +174,7 @@ SameTold a b = told (a .step .result) ≡ told (b .step .result)
 -- what a service's reply meets is not told
 carried-told : (limit : ℕ) (s : State) (i : Inbound) (a : Served) → told (carried limit s i a .step .result) ≡ 0
 carried-told limit s i a =
-    memb-each (λ n. told n ≡ 0) (carried limit s i a .step .result) (0 ∷ 3 ∷ []) (refl, (refl, tt)) (apply-gives limit s (i .src) (sidOf (i .frame)) (i .time) (a .effect) .result)
+    memb-each (λ n. told n ≡ 0) (carried limit s i a .step .result) (0 ∷ 3 ∷ []) (refl, (refl, tt)) (apply-gives limit s (i .src) (sidOf (i .frame)) (i .time) (a .effect))
 
 module _ (limit : ℕ) (i : Inbound) (g : Given) (t : Table) where
   -- a request that is heard, and one that is routed

@@ -3,6 +3,7 @@ pub mod Replies
 pub mod Results
 pub mod Periodic
 pub mod Tick
+pub mod Room
 use Prim.Native.Nat.{ℕ, _≤_, _<_}
 use mathlib.Core.Path.{_≡_, refl}
 use mathlib.Core.Bool.{Bool, true, false, _&&_, true≢false, and-false}
@@ -25,8 +26,8 @@ use Rattle.model.specs.Queue.{records, written, drained}
 use Rattle.model.specs.Drain.{unmoved, drain}
 use Rattle.model.specs.History.{Call, requests, questions, ticks, completes, fails, drains, call}
 use Rattle.model.proofs.Laws.{either, Each, memb-each, memb-never}
-use Rattle.model.proofs.Leaves.Replies.{Full, Unmoved, queued-unmoved, confirmed-unmoved, queued-answered, confirmed-answered, apply-gives}
-use Rattle.model.proofs.Leaves.Results.{timeOf, refusedBy, passing, mayGive, routed-gives, call-10, call-6, call-passing}
+use Rattle.model.proofs.Leaves.Replies.{Unmoved, queued-unmoved, confirmed-unmoved, queued-answered, confirmed-answered, apply-gives}
+use Rattle.model.proofs.Leaves.Results.{timeOf, refusedBy, passing, mayGive, call-10, call-6, call-passing}
 use Rattle.model.proofs.Valid.Parts.{valid-parts}
 
 -- a call ends in one of three ways: by 10, by 6, or past both with another number
@@ -158,7 +159,7 @@ module _ (limit : ℕ) (s : State) (v : valid limit s ≡ true) where
         go : (b : Bool) → pick b (carried limit t (r .inbound) (served limit t r)) (plain (step 2 t)) .step .result ≡ 2 → b ≡ false
         go true z =
             absurd (memb-never 2 (carried limit t (r .inbound) (served limit t r) .step .result) (0 ∷ 3 ∷ []) refl
-            (apply-gives limit t (r .inbound .src) (sidOf (r .inbound .frame)) (r .inbound .time) (served limit t r .effect) .result) z)
+            (apply-gives limit t (r .inbound .src) (sidOf (r .inbound .frame)) (r .inbound .time) (served limit t r .effect)) z)
         go false z = refl
 
     -- and leaves the address mode and last_rx set, and all else unchanged
@@ -197,14 +198,6 @@ module _ (limit : ℕ) (s : State) (v : valid limit s ≡ true) where
   pub drain-5-leaves : (buffer : List ℕ) → length buffer < length (records (s .queue)) → drain limit s buffer ≡ unmoved 5 s buffer
   unfolding drain drained
   drain-5-leaves buffer h = rw (v, valid-parts limit s v .queue, lt-leb (length (records (s .queue))) (length buffer) h) refl
-
--- 3, of a request: the queue is the old queue, and 16 frames were held
-pub request-3 : (limit : ℕ) (s : State) (r : Request) → request limit s r .step .result ≡ 3 → (request limit s r .step .state .queue ≡ s .queue) × (maxOutbox ≤ length (s .queue))
-unfolding request
-request-3 limit s r =
-    either (λ (a : Answer). Full s (a .step)) (valid limit s)
-    (either (λ (a : Answer). Full s (a .step)) (leb (r .inbound .time) maxTime) (routed-gives limit s r (addressed (s .config) (r .inbound .dst)) .full) (λ z. absurd (omega arith)))
-    (λ z. absurd (omega arith))
 
 -- past 10 and 6, which are not 3
 gated-3 : (limit : ℕ) (s u : State) (now : Moment) (x : Step) → Unmoved u x → Unmoved u (pick (valid limit s) (pick (leb now maxTime) x (step 6 s)) (step 10 s))

@@ -231,7 +231,7 @@ module _ (v : Seen) where
       go h = let k = fits in first-byte (omega arith) (place 2 4 (pathLength (v .payload)) (omega arith) (omega arith) done)
 
   -- each of the fourteen, and every refusal
-  placed-each : Each Serves v
+  pub placed-each : Each Serves v
   unfolding service3E
   placed-each = record {
     at3E = still 0x3E;

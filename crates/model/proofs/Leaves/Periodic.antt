@@ -88,40 +88,49 @@ module _ (limit : ℕ) (now : Moment) (t : Table) where
       go true q = eqb-true (a .result) 0 q
       go false q = sym (ap (λ (p : Passed). p .result) (later-stand ys a (eqb-false (a .result) 0 q))) ∙ e
 
-  -- a due entry that met nothing is advanced, and its frame queued
+  -- a due entry that met nothing is advanced, its frame queued, and no error byte set
   due-clean : (a : Passed) (e : Subscription) (o : Outcome) → dueSent limit now a e o .result ≡ 0
-      → (dueSent limit now a e o .entries ≡ a .entries ++ (advanced now e ∷ [])) × (dueSent limit now a e o .queue ≡ a .queue ++ frameOf e o)
+      → (dueSent limit now a e o .entries ≡ a .entries ++ (advanced now e ∷ [])) × (dueSent limit now a e o .queue ≡ a .queue ++ frameOf e o) × (dueSent limit now a e o .err ≡ a .err)
   unfolding dueSent passed sent pushed
   due-clean a e (error code) z = absurd (omega arith)
   due-clean a e (bytes b) z =
-      either Clean (leb (suc (length b)) limit) (either Clean (ltb (length (a .queue)) maxOutbox) (λ y. (refl, refl)) (λ y. absurd (omega arith))) (λ y. absurd (omega arith)) z
+      either Clean (leb (suc (length b)) limit) (either Clean (ltb (length (a .queue)) maxOutbox) (λ y. (refl, refl, refl)) (λ y. absurd (omega arith))) (λ y. absurd (omega arith)) z
     where
       Clean : QueueStep → Type 0
-      Clean p = passed now a e p .result ≡ 0 → (passed now a e p .entries ≡ a .entries ++ (advanced now e ∷ [])) × (passed now a e p .queue ≡ a .queue ++ frameOf e (bytes b))
+      Clean p = passed now a e p .result ≡ 0
+          → (passed now a e p .entries ≡ a .entries ++ (advanced now e ∷ [])) × (passed now a e p .queue ≡ a .queue ++ frameOf e (bytes b)) × (passed now a e p .err ≡ a .err)
 
   -- one that was not due stands, and queues nothing
   one-clean : (a : Passed) (e : Subscription) → a .result ≡ 0 → passOne limit now t a e .result ≡ 0
       → (passOne limit now t a e .entries ≡ a .entries ++ (moved now e ∷ []))
       × (passOne limit now t a e .queue ≡ a .queue ++ dueFrame limit now t e)
+      × (passOne limit now t a e .err ≡ a .err)
   unfolding passOne
   one-clean a e r = rw (eq-eqb (a .result) 0 r) (go (leb (e .next) now))
     where
-      go : (u : Bool) → pick u (dueSent limit now a e (value limit t (e .identifier))) (kept a e) .result ≡ 0
-          → (pick u (dueSent limit now a e (value limit t (e .identifier))) (kept a e) .entries ≡ a .entries ++ (pick u (advanced now e) e ∷ []))
-          × (pick u (dueSent limit now a e (value limit t (e .identifier))) (kept a e) .queue ≡ a .queue ++ pick u (frameOf e (value limit t (e .identifier))) [])
+      one : Bool → Passed
+      one u = pick u (dueSent limit now a e (value limit t (e .identifier))) (kept a e)
+
+      go : (u : Bool) → one u .result ≡ 0
+          → (one u .entries ≡ a .entries ++ (pick u (advanced now e) e ∷ []))
+          × (one u .queue ≡ a .queue ++ pick u (frameOf e (value limit t (e .identifier))) [])
+          × (one u .err ≡ a .err)
       go true z = due-clean a e (value limit t (e .identifier)) z
-      go false z = (refl, sym (append-nil (a .queue)))
+      go false z = (refl, sym (append-nil (a .queue)), refl)
 
   -- so where no entry met a result, each due one is advanced and its frame queued, in table order
   pub passed-clean : (xs : List Subscription) (a : Passed) → a .result ≡ 0 → passAll limit now t xs a .result ≡ 0
-      → (passAll limit now t xs a .entries ≡ a .entries ++ map (moved now) xs) × (passAll limit now t xs a .queue ≡ a .queue ++ dueFrames limit now t xs)
-  passed-clean [] a r z = (sym (append-nil (a .entries)), sym (append-nil (a .queue)))
+      → (passAll limit now t xs a .entries ≡ a .entries ++ map (moved now) xs)
+      × (passAll limit now t xs a .queue ≡ a .queue ++ dueFrames limit now t xs)
+      × (passAll limit now t xs a .err ≡ a .err)
+  passed-clean [] a r z = (sym (append-nil (a .entries)), sym (append-nil (a .queue)), refl)
   passed-clean (e ∷ xs) a r z =
       let r′ = was-0 xs (passOne limit now t a e) z in
       let one = one-clean a e r r′ in
       let rest = passed-clean xs (passOne limit now t a e) r′ z in (
         rest .0 ∙ ap (λ (l : List Subscription). l ++ map (moved now) xs) (one .0) ∙ append-assoc (a .entries) (moved now e ∷ []) (map (moved now) xs),
         rest .1 ∙ ap (λ (q : List Frame). q ++ dueFrames limit now t xs) (one .1) ∙ append-assoc (a .queue) (dueFrame limit now t e) (dueFrames limit now t xs),
+        rest .2 ∙ one .2,
       )
 
   -- an entry that met a number: it was due, and those before it met none

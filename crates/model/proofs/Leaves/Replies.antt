@@ -74,14 +74,9 @@ pub physical-sent : (s : State) (to sid code : ℕ) → s .mode ≡ physical →
 unfolding queued refused withheld
 physical-sent s to sid code m = rw m refl
 
--- 3 leaves the queue as it was, and 16 frames were held
-abbrev pub Full : State → Step → Type 0
-Full s p = p .result ≡ 3 → (p .state .queue ≡ s .queue) × (maxOutbox ≤ length (s .queue))
-
--- what a reply gives and leaves: 0 or 3; all but the pending request and the queue as it was; and the queue too where it is 3
+-- what a reply gives and leaves: 0 or 3, and all but the pending request and the queue as it was
 pub record Answered (s : State) (p : Step) : Type 0 where
   pub result : memb (p .result) (0 ∷ 3 ∷ []) ≡ true
-  pub full : Full s p
   pub config : p .state .config ≡ s .config
   pub mode : p .state .mode ≡ s .mode
   pub session : p .state .session ≡ s .session
@@ -90,16 +85,19 @@ pub record Answered (s : State) (p : Step) : Type 0 where
 
 -- done, and nothing changed
 pub done-answered : (s : State) → Answered s (step 0 s)
-done-answered s = record { result = refl; full = λ z. absurd (omega arith); config = refl; mode = refl; session = refl; security = refl; periodic = refl }
+done-answered s = record { result = refl; config = refl; mode = refl; session = refl; security = refl; periodic = refl }
 
 -- so a frame that is queued
 pub queued-answered : (s : State) (to : ℕ) (b : List ℕ) → Answered s (queued s to b)
 unfolding queued pushed
-queued-answered s to b = go (ltb (length (s .queue)) maxOutbox) refl
-  where
-    go : (t : Bool) → ltb (length (s .queue)) maxOutbox ≡ t → Answered s (taken s (pick t (leaves 0 (s .queue ++ (record { dst = to; bytes = b } ∷ []))) (leaves 3 (s .queue))))
-    go true e = record { result = refl; full = λ z. absurd (omega arith); config = refl; mode = refl; session = refl; security = refl; periodic = refl }
-    go false e = record { result = refl; full = λ z. (refl, ltb-false (length (s .queue)) maxOutbox e); config = refl; mode = refl; session = refl; security = refl; periodic = refl }
+queued-answered s to b = record {
+  result = either (λ (p : QueueStep). memb (p .result) (0 ∷ 3 ∷ []) ≡ true) (ltb (length (s .queue)) maxOutbox) refl refl;
+  config = refl;
+  mode = refl;
+  session = refl;
+  security = refl;
+  periodic = refl;
+}
 
 -- a negative code, withheld or not
 pub refused-answered : (s : State) (to sid code : ℕ) → Answered s (taken s (refused (s .mode) (s .queue) to sid code))
@@ -113,7 +111,7 @@ confirmed-answered limit s to sid p = either (λ (x : QueueStep). Answered s (ta
 
 -- another pending request makes no difference to that
 pub pending-answered : (s : State) (q : Option PendingRequest) (p : Step) → Answered (withPending s q) p → Answered s p
-pending-answered s q p a = record { result = a .result; full = a .full; config = a .config; mode = a .mode; session = a .session; security = a .security; periodic = a .periodic }
+pending-answered s q p a = record { result = a .result; config = a .config; mode = a .mode; session = a .session; security = a .security; periodic = a .periodic }
 
 -- a request that becomes pending
 pub begun-answered : (s : State) (to sid : ℕ) (now : Moment) → Answered s (begun s to sid now)
@@ -149,33 +147,16 @@ apply-on Q limit s to sid now e h k =
     a : Answered s (replied limit s to sid now (e .reply))
     a = replied-answered limit s to sid now (e .reply)
 
--- a step gives one of some numbers, and 3 leaves the queue as it was, with 16 frames held
-pub record Gives (ns : List ℕ) (s : State) (p : Step) : Type 0 where
-  pub result : memb (p .result) ns ≡ true
-  pub full : Full s p
-
--- a reply gives 0 or 3
-pub answered-gives : {s : State} {p : Step} → Answered s p → Gives (0 ∷ 3 ∷ []) s p
-answered-gives a = record { result = a .result; full = a .full }
-
--- one of some numbers is one of more
-pub wider : (ns ms : List ℕ) {s : State} {p : Step} → Each (λ n. memb n ms ≡ true) ns → Gives ns s p → Gives ms s p
-wider ns ms {p = p} e a = record { result = memb-each (λ n. memb n ms ≡ true) (p .result) ns e (a .result); full = a .full }
-
--- a change that waits for the reply
-after-gives : (s : State) (e : Effect) (p : Step) → Answered s p → Gives (0 ∷ 3 ∷ []) s (changedAfter e p)
-unfolding changedAfter
-after-gives s e p a = either (Gives (0 ∷ 3 ∷ []) s) (eqb (p .result) 0) (record { result = refl; full = λ z. absurd (omega arith) }) (answered-gives a)
-
--- an effect carried out gives 0 or 3, and 3 leaves the queue as it was
-pub apply-gives : (limit : ℕ) (s : State) (to sid : ℕ) (now : Moment) (e : Effect) → Gives (0 ∷ 3 ∷ []) s (apply limit s to sid now e)
-unfolding apply
+-- an effect carried out gives 0 or 3
+pub apply-gives : (limit : ℕ) (s : State) (to sid : ℕ) (now : Moment) (e : Effect) → memb (apply limit s to sid now e .result) (0 ∷ 3 ∷ []) ≡ true
+unfolding apply changedAfter
 apply-gives limit s to sid now e =
-    either (Gives (0 ∷ 3 ∷ []) s) (e .waits) (after-gives s e (replied limit s to sid now (e .reply)) (replied-answered limit s to sid now (e .reply)))
-    (record { result = b .result; full = b .full })
+    either Gives (e .waits)
+    (either Gives (eqb (replied limit s to sid now (e .reply) .result) 0) refl (replied-answered limit s to sid now (e .reply) .result))
+    (replied-answered limit (changed s e) to sid now (e .reply) .result)
   where
-    b : Answered (changed s e) (replied limit (changed s e) to sid now (e .reply))
-    b = replied-answered limit (changed s e) to sid now (e .reply)
+    Gives : Step → Type 0
+    Gives p = memb (p .result) (0 ∷ 3 ∷ []) ≡ true
 
 -- the session, security and subscriptions of a state
 pub record Holds (s : State) (session : Session) (security : Security) (periodic : List Subscription) : Type 0 where

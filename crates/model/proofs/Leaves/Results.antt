@@ -16,15 +16,15 @@ use Rattle.model.specs.Frame.{sidOf, negativeFrame}
 use Rattle.model.specs.State.{AddressMode, Subscription, PendingRequest, State, Step, step, valid, withPending, received}
 use Rattle.model.specs.Reply.{queued, confirmed, begun}
 use Rattle.model.specs.Service.{noAct}
-use Rattle.model.specs.Request.{Request, Answer, served, lengthFits, heard, addressed, routed, request}
+use Rattle.model.specs.Request.{Request, Answer, served, carried, lengthFits, heard, addressed, routed, request}
 use Rattle.model.specs.Question.{bare, askedOf, question}
 use Rattle.model.specs.Pending.{completed, failed, complete, fail}
 use Rattle.model.specs.Tick.{s3, refreshed, Passed, passed, dueSent, passOne, passAll, Ticked, periodic, thenPeriodic, ticked, tick}
 use Rattle.model.specs.Queue.{QueueStep, QueueDrain, pushed, sent, records, drained}
 use Rattle.model.specs.Drain.{drain}
 use Rattle.model.specs.History.{Call, requests, questions, ticks, completes, fails, drains, Done, call}
-use Rattle.model.proofs.Laws.{either, memb-each}
-use Rattle.model.proofs.Leaves.Replies.{Answered, done-answered, queued-answered, confirmed-answered, begun-answered, pending-answered, Gives, answered-gives, wider, apply-gives}
+use Rattle.model.proofs.Laws.{either, Each, memb-each}
+use Rattle.model.proofs.Leaves.Replies.{Answered, done-answered, queued-answered, confirmed-answered, begun-answered, apply-gives}
 use Rattle.model.proofs.Valid.Parts.{valid-parts}
 
 -- when a call is made: a drain has no time, and 0 serves for it
@@ -67,41 +67,37 @@ mayGive (completes now payload) = 0 ∷ 1 ∷ 3 ∷ 6 ∷ 10 ∷ []
 mayGive (fails now code) = 0 ∷ 1 ∷ 3 ∷ 6 ∷ 10 ∷ []
 mayGive (drains buffer) = 0 ∷ 5 ∷ 10 ∷ []
 
--- a request that is heard gives 0, 2 or 3, and 3 leaves the queue as it was
-heard-gives : (limit : ℕ) (s : State) (r : Request) (o : Option PendingRequest) → Gives (0 ∷ 2 ∷ 3 ∷ []) s (heard limit s r o .step)
+-- what a reply gives, 0 or 3, is one of more numbers
+among : (ns : List ℕ) {s : State} {p : Step} → Each (λ n. memb n ns ≡ true) (0 ∷ 3 ∷ []) → Answered s p → memb (p .result) ns ≡ true
+among ns {p = p} e a = memb-each (λ n. memb n ns ≡ true) (p .result) (0 ∷ 3 ∷ []) e (a .result)
+
+-- a request that is heard gives 0, 2 or 3
+heard-gives : (limit : ℕ) (s : State) (r : Request) (o : Option PendingRequest) → memb (heard limit s r o .step .result) (0 ∷ 2 ∷ 3 ∷ []) ≡ true
 unfolding heard
-heard-gives limit s r (some p) =
-    wider (0 ∷ 3 ∷ []) (0 ∷ 2 ∷ 3 ∷ []) (refl, (refl, tt)) (answered-gives (queued-answered s (r .inbound .dst) (negativeFrame (sidOf (r .inbound .frame)) 0x21)))
+heard-gives limit s r (some p) = among (0 ∷ 2 ∷ 3 ∷ []) (refl, (refl, tt)) (queued-answered s (r .inbound .dst) (negativeFrame (sidOf (r .inbound .frame)) 0x21))
 heard-gives limit s r none =
-    either (λ (a : Answer). Gives (0 ∷ 2 ∷ 3 ∷ []) s (a .step)) (lengthFits (r .inbound .frame))
-    (wider (0 ∷ 3 ∷ []) (0 ∷ 2 ∷ 3 ∷ []) (refl, (refl, tt)) (apply-gives limit s (r .inbound .src) (sidOf (r .inbound .frame)) (r .inbound .time) (served limit s r .effect)))
-    (record { result = refl; full = λ z. absurd (omega arith) })
+    either (λ (a : Answer). memb (a .step .result) (0 ∷ 2 ∷ 3 ∷ []) ≡ true) (lengthFits (r .inbound .frame))
+    (memb-each (λ n. memb n (0 ∷ 2 ∷ 3 ∷ []) ≡ true) (carried limit s (r .inbound) (served limit s r) .step .result) (0 ∷ 3 ∷ []) (refl, (refl, tt))
+    (apply-gives limit s (r .inbound .src) (sidOf (r .inbound .frame)) (r .inbound .time) (served limit s r .effect)))
+    refl
 
 -- and so does one that is routed
-pub routed-gives : (limit : ℕ) (s : State) (r : Request) (o : Option AddressMode) → Gives (0 ∷ 2 ∷ 3 ∷ []) s (routed limit s r o .step)
+routed-gives : (limit : ℕ) (s : State) (r : Request) (o : Option AddressMode) → memb (routed limit s r o .step .result) (0 ∷ 2 ∷ 3 ∷ []) ≡ true
 unfolding routed
-routed-gives limit s r none = record { result = refl; full = λ z. absurd (omega arith) }
-routed-gives limit s r (some m) = record { result = a .result; full = a .full }
-  where
-    a : Gives (0 ∷ 2 ∷ 3 ∷ []) (received s m (r .inbound .time)) (heard limit (received s m (r .inbound .time)) r (s .pending) .step)
-    a = heard-gives limit (received s m (r .inbound .time)) r (s .pending)
+routed-gives limit s r none = refl
+routed-gives limit s r (some m) = heard-gives limit (received s m (r .inbound .time)) r (s .pending)
 
 -- a pending request's answer gives 0, 1 or 3
-pub completed-gives : (limit : ℕ) (s : State) (payload : List ℕ) (o : Option PendingRequest) → Gives (0 ∷ 1 ∷ 3 ∷ []) s (completed limit s payload o)
+completed-gives : (limit : ℕ) (s : State) (payload : List ℕ) (o : Option PendingRequest) → memb (completed limit s payload o .result) (0 ∷ 1 ∷ 3 ∷ []) ≡ true
 unfolding completed
-completed-gives limit s payload none = record { result = refl; full = λ z. absurd (omega arith) }
-completed-gives limit s payload (some p) =
-    wider (0 ∷ 3 ∷ []) (0 ∷ 1 ∷ 3 ∷ []) (refl, (refl, tt))
-    (answered-gives (pending-answered s none (confirmed limit (withPending s none) (p .dst) (p .sid) payload) (confirmed-answered limit (withPending s none) (p .dst) (p .sid) payload)))
+completed-gives limit s payload none = refl
+completed-gives limit s payload (some p) = among (0 ∷ 1 ∷ 3 ∷ []) (refl, (refl, tt)) (confirmed-answered limit (withPending s none) (p .dst) (p .sid) payload)
 
 -- and so does its failure
-pub failed-gives : (s : State) (code : ℕ) (o : Option PendingRequest) → Gives (0 ∷ 1 ∷ 3 ∷ []) s (failed s code o)
+failed-gives : (s : State) (code : ℕ) (o : Option PendingRequest) → memb (failed s code o .result) (0 ∷ 1 ∷ 3 ∷ []) ≡ true
 unfolding failed
-failed-gives s code none = record { result = refl; full = λ z. absurd (omega arith) }
-failed-gives s code (some p) =
-    wider (0 ∷ 3 ∷ []) (0 ∷ 1 ∷ 3 ∷ []) (refl, (refl, tt))
-    (answered-gives (pending-answered s none (queued (withPending s none) (p .dst) (negativeFrame (p .sid) code))
-    (queued-answered (withPending s none) (p .dst) (negativeFrame (p .sid) code))))
+failed-gives s code none = refl
+failed-gives s code (some p) = among (0 ∷ 1 ∷ 3 ∷ []) (refl, (refl, tt)) (queued-answered (withPending s none) (p .dst) (negativeFrame (p .sid) code))
 
 -- a tick's pending step gives 0 or 3
 pub refreshed-answered : (s : State) (now : Moment) (o : Option PendingRequest) → Answered s (refreshed s now o)
@@ -138,7 +134,7 @@ ticked-result limit s now t = go (refreshed (s3 s now) now (s .pending)) (refres
     go p a =
         either (λ (u : Ticked). memb (u .step .result) (0 ∷ 3 ∷ 4 ∷ 8 ∷ []) ≡ true) (eqb (p .result) 0)
         (passAll-result limit now t (p .state .periodic) (record { result = 0; err = 0; entries = []; queue = p .state .queue }) refl)
-        (memb-each (λ n. memb n (0 ∷ 3 ∷ 4 ∷ 8 ∷ []) ≡ true) (p .result) (0 ∷ 3 ∷ []) (refl, (refl, tt)) (a .result))
+        (among (0 ∷ 3 ∷ 4 ∷ 8 ∷ []) (refl, (refl, tt)) a)
 
 -- 10: a state that is not valid is refused by every call, and nothing changes
 pub call-10 : (limit : ℕ) (s : State) (c : Call) → valid limit s ≡ false → call limit s c ≡ refusedBy 10 s c
@@ -163,14 +159,14 @@ call-6 limit s (drains buffer) e h = absurd (omega arith)
 -- a valid state and a time up to 2^48: the other numbers
 pub call-passing : (limit : ℕ) (s : State) (c : Call) → valid limit s ≡ true → timeOf c ≤ maxTime → memb (call limit s c .shown .result) (passing c) ≡ true
 unfolding call request question askedOf tick complete fail drain drained
-call-passing limit s (requests r) e h = rw (e, le-leb (r .inbound .time) maxTime h) (routed-gives limit s r (addressed (s .config) (r .inbound .dst)) .result)
+call-passing limit s (requests r) e h = rw (e, le-leb (r .inbound .time) maxTime h) (routed-gives limit s r (addressed (s .config) (r .inbound .dst)))
 call-passing limit s (questions i) e h =
     rw (e, le-leb (i .time) maxTime h)
     (memb-each (λ n. memb (pick (memb n (10 ∷ 6 ∷ 2 ∷ [])) n 0) (0 ∷ 2 ∷ []) ≡ true)
     (routed limit s (bare i) (addressed (s .config) (i .dst)) .step .result) (0 ∷ 2 ∷ 3 ∷ []) (refl, (refl, (refl, tt)))
-    (routed-gives limit s (bare i) (addressed (s .config) (i .dst)) .result))
+    (routed-gives limit s (bare i) (addressed (s .config) (i .dst))))
 call-passing limit s (ticks now t) e h = rw (e, le-leb now maxTime h) (ticked-result limit s now t)
-call-passing limit s (completes now payload) e h = rw (e, le-leb now maxTime h) (completed-gives limit s payload (s .pending) .result)
-call-passing limit s (fails now code) e h = rw (e, le-leb now maxTime h) (failed-gives s code (s .pending) .result)
+call-passing limit s (completes now payload) e h = rw (e, le-leb now maxTime h) (completed-gives limit s payload (s .pending))
+call-passing limit s (fails now code) e h = rw (e, le-leb now maxTime h) (failed-gives s code (s .pending))
 call-passing limit s (drains buffer) e h =
     rw (e, valid-parts limit s e .queue) (either (λ (d : QueueDrain). memb (d .result) (0 ∷ 5 ∷ []) ≡ true) (leb (length (records (s .queue))) (length buffer)) refl refl)
