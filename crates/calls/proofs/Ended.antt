@@ -1,17 +1,17 @@
 -- One law for each way out of complete and fail.
 use Prim.Native.Nat.{ℕ}
 use mathlib.Core.Path.{_≡_, refl, ap, ap₂, sym, _∙_}
-use mathlib.Core.Bool.{Bool, true, false, not}
+use mathlib.Core.Bool.{Bool, true, false}
 use mathlib.Core.List.{List, []}
 use mathlib.Core.Option.{some, none}
-use borrow.Author.Tests.{le-leb, not-true, not-false}
+use native.Mathlib.Omega.{arith}
 use Rattle.model.specs.Tests.{pick}
-use Rattle.model.specs.Numbers.{maxFrame, maxTime}
+use Rattle.model.specs.Numbers.{maxFrame}
 use Rattle.model.specs.Frame.{Frame, negativeFrame}
 use Rattle.model.specs.State as Model
-use Rattle.model.specs.State.{AddressMode, withPending}
+use Rattle.model.specs.State.{AddressMode, PendingRequest, withPending}
 use Rattle.model.specs.Queue as Queue
-use Rattle.model.specs.Queue.{pushed, answered}
+use Rattle.model.specs.Queue.{answered}
 use Rattle.model.specs.Reply.{taken, queued, confirmed}
 use Rattle.model.specs.Service22.{Reading, going, ended, appended, readReply}
 use Rattle.model.specs.Pending.{complete, completed, fail, failed}
@@ -21,9 +21,9 @@ use Rattle.queue.proofs.Replied.{made}
 use Rattle.queue.specs.declared.reply.Pushed.{Pushed}
 use Rattle.state.specs.View.{pendingOf, stateOf, stepOf}
 use Rattle.state.specs.declared.State.{State}
-use Rattle.calls.specs.Gate.{barring}
+use Rattle.calls.specs.Gate.{unlessPending, ending}
 use Rattle.calls.specs.Pending.{Ends}
-use Rattle.calls.proofs.Gate.{barred-so, let-through}
+use Rattle.calls.proofs.Gate.{ended-barred, ended-through}
 
 -- a payload made where it will wait, or found too long in the making, is confirmed
 confirms : (mode : AddressMode) (q : List Frame) (to sid : ℕ) (payload : List ℕ) (o : Reading) → o ≡ appended maxFrame [] payload → answered maxFrame mode q to sid (readReply o) ≡ Queue.confirmed maxFrame mode q to sid payload
@@ -38,54 +38,49 @@ pub confirmed-made : (mode : AddressMode) (q : List Frame) (to sid : ℕ) (paylo
 unfolding answered
 confirmed-made mode q to sid payload made e = confirms mode q to sid payload (going made) e
 
+-- one is pending
+is-pending : (on : Bool) (p : PendingRequest) → unlessPending (pick on (some p) none) ≡ 0 → on ≡ true
+is-pending true p e = refl
+is-pending false p e = absurd (omega arith)
+
+-- and is seen so
+pub pending-so : (s : State) (n : ℕ) → unlessPending (pendingOf (s .pending)) ≡ n → (s .pending .on ≡ true → 0 ≡ n) × (s .pending .on ≡ false → 1 ≡ n)
+pending-so s n e = (λ on. rw on at e, λ on. rw on at e)
+
 module _ (w : List ℕ) (s : State) (k subs heads room : List ℕ) (t : ℕ) where
   abbrev before : Model.State
   before = stateOf w s k subs heads room
 
   module _ (payload : List ℕ) where
-    pub complete-barred : (n : ℕ) → n ≡ barring before t → (n ≡ 0 → ⊥) → Model.step n before ≡ complete maxFrame before t payload
-    unfolding complete
-    complete-barred n e z = barred-so before t (λ m. Model.step m before) _ n e z
+    pub complete-barred : (n : ℕ) → n ≡ ending before t → (n ≡ 0 → ⊥) → Model.step n before ≡ complete maxFrame before t payload
+    unfolding complete completed
+    complete-barred n g z = ended-barred before t (λ m. Model.step m before) (completed maxFrame before payload) n g z refl
 
-    complete-on : (n : ℕ) → n ≡ barring before t → n ≡ 0 → completed maxFrame before payload (before .pending) ≡ complete maxFrame before t payload
-    unfolding complete
-    complete-on n g z = let p = let-through before t n g z in rw (p .0, le-leb t maxTime (p .1))
-
-    pub complete-none : (n : ℕ) → n ≡ barring before t → n ≡ 0 → not (s .pending .on) ≡ true → Model.step 1 before ≡ complete maxFrame before t payload
-    unfolding completed
-    complete-none n g z e = let x : Model.step 1 before ≡ completed maxFrame before payload (before .pending) = rw (not-true (s .pending .on) e) in x ∙ complete-on n g z
-
-    pub completes : (p : Pushed) (r : State) (heads' room' : List ℕ) (n : ℕ) → n ≡ barring before t → n ≡ 0 → not (s .pending .on) ≡ false
+    pub completes : (p : Pushed) (r : State) (heads' room' : List ℕ) (n : ℕ) → n ≡ ending before t → n ≡ 0
         → View.stepOf p heads' room' ≡ Queue.confirmed maxFrame (modeOf (s .functional)) (queueOf (s .frames) heads room) (s .pending .dst) (s .pending .sid) payload → Ends s (p .count) r
         → stepOf w (record { state = r; result = p .result }) k subs heads' room' ≡ complete maxFrame before t payload
-    unfolding completed confirmed
-    completes p r heads' room' n g z e q d =
-        let x : confirmed maxFrame (withPending before none) (s .pending .dst) (s .pending .sid) payload ≡ completed maxFrame before payload (before .pending) = rw (not-false (s .pending .on) e) in
+    unfolding complete completed confirmed
+    completes p r heads' room' n g z q d =
+        let e = ended-through before t (λ m. Model.step m before) (completed maxFrame before payload) n g z in
+        let x : confirmed maxFrame (withPending before none) (s .pending .dst) (s .pending .sid) payload ≡ completed maxFrame before payload (before .pending) = rw (is-pending (s .pending .on) _ (e .0)) in
         ap (Model.step (p .result)) (d .state w k subs heads room heads' room')
         ∙ ap (taken (withPending before none)) q
         ∙ x
-        ∙ complete-on n g z
+        ∙ e .1
 
   module _ (code : ℕ) where
-    pub fail-barred : (n : ℕ) → n ≡ barring before t → (n ≡ 0 → ⊥) → Model.step n before ≡ fail maxFrame before t code
-    unfolding fail
-    fail-barred n e z = barred-so before t (λ m. Model.step m before) _ n e z
+    pub fail-barred : (n : ℕ) → n ≡ ending before t → (n ≡ 0 → ⊥) → Model.step n before ≡ fail maxFrame before t code
+    unfolding fail failed
+    fail-barred n g z = ended-barred before t (λ m. Model.step m before) (failed before code) n g z refl
 
-    fail-on : (n : ℕ) → n ≡ barring before t → n ≡ 0 → failed before code (before .pending) ≡ fail maxFrame before t code
-    unfolding fail
-    fail-on n g z = let p = let-through before t n g z in rw (p .0, le-leb t maxTime (p .1))
-
-    pub fail-none : (n : ℕ) → n ≡ barring before t → n ≡ 0 → not (s .pending .on) ≡ true → Model.step 1 before ≡ fail maxFrame before t code
-    unfolding failed
-    fail-none n g z e = let x : Model.step 1 before ≡ failed before code (before .pending) = rw (not-true (s .pending .on) e) in x ∙ fail-on n g z
-
-    pub fails : (p : Pushed) (r : State) (heads' room' : List ℕ) (n : ℕ) → n ≡ barring before t → n ≡ 0 → not (s .pending .on) ≡ false
-        → View.stepOf p heads' room' ≡ pushed (queueOf (s .frames) heads room) (s .pending .dst) (negativeFrame (s .pending .sid) code) → Ends s (p .count) r
+    pub fails : (p : Pushed) (r : State) (heads' room' : List ℕ) (n : ℕ) → n ≡ ending before t → n ≡ 0
+        → View.stepOf p heads' room' ≡ Queue.refused (modeOf false) (queueOf (s .frames) heads room) (s .pending .dst) (s .pending .sid) code → Ends s (p .count) r
         → stepOf w (record { state = r; result = p .result }) k subs heads' room' ≡ fail maxFrame before t code
-    unfolding failed queued
-    fails p r heads' room' n g z e q d =
-        let x : queued (withPending before none) (s .pending .dst) (negativeFrame (s .pending .sid) code) ≡ failed before code (before .pending) = rw (not-false (s .pending .on) e) in
+    unfolding fail failed queued Queue.refused Queue.withheld
+    fails p r heads' room' n g z q d =
+        let e = ended-through before t (λ m. Model.step m before) (failed before code) n g z in
+        let x : queued (withPending before none) (s .pending .dst) (negativeFrame (s .pending .sid) code) ≡ failed before code (before .pending) = rw (is-pending (s .pending .on) _ (e .0)) in
         ap (Model.step (p .result)) (d .state w k subs heads room heads' room')
         ∙ ap (taken (withPending before none)) q
         ∙ x
-        ∙ fail-on n g z
+        ∙ e .1

@@ -1,14 +1,15 @@
--- 10, then 6: said once for every call that has a time.
+-- 10, then 6: said once for every call that has a time; then 1, for complete and fail.
 use Prim.Native.Nat.{ℕ, _≤_, _<_}
 use mathlib.Core.Path.{_≡_, refl, sym, _∙_}
 use mathlib.Core.Bool.{Bool, true, false, not}
+use mathlib.Core.Option.{Option, some, none}
 use native.Mathlib.Omega.{arith}
 use lib.Dec.{leb}
 use borrow.Author.Tests.{le-leb, lt-leb, leb-true, not-true, not-false}
 use Rattle.model.specs.Tests.{pick}
 use Rattle.model.specs.Numbers.{Moment, maxFrame, maxTime}
-use Rattle.model.specs.State.{State, valid}
-use Rattle.calls.specs.Gate.{barring}
+use Rattle.model.specs.State.{PendingRequest, State, valid}
+use Rattle.calls.specs.Gate.{barring, unlessPending, ending}
 
 module _ (s : State) (t : Moment) where
   -- by what is found of the state and the time
@@ -44,3 +45,40 @@ module _ (s : State) (t : Moment) where
       go false b e z = rw e
       go true false e z = rw e
       go true true e z = absurd (z e)
+
+  -- complete and fail ask for a pending request too
+  module _ (n : ℕ) (g : n ≡ barring s t) where
+    pub ends-barred : (n ≡ 0 → ⊥) → n ≡ ending s t
+    unfolding barring ending
+    ends-barred z = go (valid maxFrame s) (leb t maxTime) g
+      where
+        go : (v b : Bool) → n ≡ pick v (pick b 0 6) 10 → n ≡ pick v (pick b (unlessPending (s .pending)) 6) 10
+        go false b e = e
+        go true false e = e
+        go true true e = absurd (z e)
+
+    pub ends-through : n ≡ 0 → unlessPending (s .pending) ≡ ending s t
+    unfolding ending
+    ends-through z = let p = let-through n g z in rw (p .0, le-leb t maxTime (p .1))
+
+  pub ended-barred : {A : Type 0} (refused : ℕ → A) (end : Option PendingRequest → A) (n : ℕ) → n ≡ ending s t → (n ≡ 0 → ⊥) → end none ≡ refused 1
+      → refused n ≡ pick (valid maxFrame s) (pick (leb t maxTime) (end (s .pending)) (refused 6)) (refused 10)
+  unfolding ending
+  ended-barred refused end n = go (valid maxFrame s) (leb t maxTime) (s .pending)
+    where
+      go : (v b : Bool) (o : Option PendingRequest) → n ≡ pick v (pick b (unlessPending o) 6) 10 → (n ≡ 0 → ⊥) → end none ≡ refused 1 → refused n ≡ pick v (pick b (end o) (refused 6)) (refused 10)
+      go false b o e z f = rw e
+      go true false o e z f = rw e
+      go true true none e z f = rw (e, f)
+      go true true (some p) e z f = absurd (z e)
+
+  pub ended-through : {A : Type 0} (refused : ℕ → A) (end : Option PendingRequest → A) (n : ℕ) → n ≡ ending s t → n ≡ 0
+      → (unlessPending (s .pending) ≡ 0) × (end (s .pending) ≡ pick (valid maxFrame s) (pick (leb t maxTime) (end (s .pending)) (refused 6)) (refused 10))
+  unfolding ending
+  ended-through refused end n g z = go (valid maxFrame s) (leb t maxTime) (s .pending) (sym z ∙ g)
+    where
+      go : (v b : Bool) (o : Option PendingRequest) → _≡_ {A = ℕ} 0 (pick v (pick b (unlessPending o) 6) 10) → (unlessPending o ≡ 0) × (end o ≡ pick v (pick b (end o) (refused 6)) (refused 10))
+      go false b o e = absurd (omega arith)
+      go true false o e = absurd (omega arith)
+      go true true none e = absurd (omega arith)
+      go true true (some p) e = (refl, refl)

@@ -84,7 +84,7 @@ module _ (w : List ℕ) (s : State) (k subs heads room : List ℕ) (t src dst : 
           let y = wantedBy (s .pending .on) (sidOf frame) seen in
           let p = Service.apply maxFrame got (pick (s .pending .on) dst src) (sidOf frame) t (y .effect) in
           by-request 0 (record { act = y .act; step = p })
-          (memb-each (λ (i : ℕ). told i ≡ 0) (p .result) (0 ∷ 3 ∷ []) (refl, (refl, tt)) (apply-gives maxFrame got (pick (s .pending .on) dst src) (sidOf frame) t (y .effect) .result))
+          (memb-each (λ (i : ℕ). told i ≡ 0) (p .result) (0 ∷ 3 ∷ []) (refl, (refl, tt)) (apply-gives maxFrame got (pick (s .pending .on) dst src) (sidOf frame) t (y .effect)))
           (answers-so w s k subs heads room t src dst frame 0 [] [] [] n g z x a fn to b m e)
 
       pub asked-busy : b ≡ false → s .pending .on ≡ true → Says 0 noAct

@@ -6,6 +6,7 @@ ghost use Rattle.model.specs.Queue as Queue;
 ghost use Rattle.queue.specs.View as View;
 ghost use Rattle.queue.specs.View.{queueOf, modeOf};
 ghost use Rattle.state.specs.View.{stateOf, stepOf};
+ghost use Rattle.calls.specs.Gate.{ending};
 ghost use Rattle.calls.specs.Pending.{Ends};
 use config::Config;
 use periodic::Subscriptions;
@@ -22,14 +23,41 @@ use uds::nrc::Nrc;
 use uds::result::DONE;
 use uds::result::NOT_PENDING;
 
+// No code is withheld after a request that was not functional, and so is none of a failure.
+const PHYSICAL: bool = false;
+
+// What both ask first: 10, then 6, then 1 where no request is pending; else 0.
+fn barred(
+    config: &Config,
+    s: State,
+    k: &Security,
+    subs: &Subscriptions,
+    heads: &Heads,
+    room: &Room,
+    t: Instant,
+) -> u8
+    ensures { λ r. ⌜ r ≡ ending (stateOf (now (config .entry)) s (now (k .entry)) (now (subs .entry)) (now (heads .entry)) (now (room .entry))) (t .0) ⌝ }
+{
+    let n = super::barred(config, s, k, subs, heads, room, t);
+    if n != DONE {
+        return n;
+    }
+    let pending = s.pending;
+    if pending.on {
+        return DONE;
+    }
+    NOT_PENDING
+}
+
 // Nothing is pending any more, and so many frames wait.
 fn ended(s: State, frames: u8) -> State
     ensures { λ r. ⌜ Ends s frames r ⌝ }
 {
     let session = s.session;
+    let none = PendingRequest::new();
     State {
         session,
-        pending: PendingRequest::new(),
+        pending: none,
         functional: s.functional,
         subscriptions: s.subscriptions,
         frames,
@@ -62,7 +90,7 @@ fn confirmed(
     queue::reply::confirm(frames, heads, room, functional, to, sid, len)
 }
 
-// The answer that the pending request waited for. 1 where none is pending.
+// The answer that the pending request waited for.
 pub fn complete(
     config: &Config,
     s: State,
@@ -75,7 +103,7 @@ pub fn complete(
 ) -> Answer
     ensures { λ r. ⌜ stepOf (now (config .entry)) r (now (k .entry)) (now (subs .entry)) (now (heads .exit)) (now (room .exit)) ≡ Model.complete maxFrame (stateOf (now (config .entry)) s (now (k .entry)) (now (subs .entry)) (now (heads .entry)) (now (room .entry))) (t .0) (now (payload .entry)) ⌝ }
 {
-    let n = super::barred(config, s, k, subs, heads, room, t);
+    let n = barred(config, s, k, subs, heads, room, t);
     if n != DONE {
         return Answer {
             state: s,
@@ -83,12 +111,6 @@ pub fn complete(
         };
     }
     let pending = s.pending;
-    if !pending.on {
-        return Answer {
-            state: s,
-            result: NOT_PENDING,
-        };
-    }
     let p = confirmed(
         s.frames,
         heads,
@@ -104,7 +126,7 @@ pub fn complete(
     }
 }
 
-// The code that ends the pending request, sent however that was addressed; 0x78 starts nothing. 1 where none is pending.
+// The code that ends the pending request, sent however that was addressed; 0x78 starts nothing.
 pub fn fail(
     config: &Config,
     s: State,
@@ -117,7 +139,7 @@ pub fn fail(
 ) -> Answer
     ensures { λ r. ⌜ stepOf (now (config .entry)) r (now (k .entry)) (now (subs .entry)) (now (heads .exit)) (now (room .exit)) ≡ Model.fail maxFrame (stateOf (now (config .entry)) s (now (k .entry)) (now (subs .entry)) (now (heads .entry)) (now (room .entry))) (t .0) code ⌝ }
 {
-    let n = super::barred(config, s, k, subs, heads, room, t);
+    let n = barred(config, s, k, subs, heads, room, t);
     if n != DONE {
         return Answer {
             state: s,
@@ -125,13 +147,15 @@ pub fn fail(
         };
     }
     let pending = s.pending;
-    if !pending.on {
-        return Answer {
-            state: s,
-            result: NOT_PENDING,
-        };
-    }
-    let p = queue::reply::negative(s.frames, heads, room, pending.dst, pending.sid, code);
+    let p = queue::reply::refuse(
+        s.frames,
+        heads,
+        room,
+        PHYSICAL,
+        pending.dst,
+        pending.sid,
+        code,
+    );
     Answer {
         state: ended(s, p.count),
         result: p.result,

@@ -1,1 +1,3 @@
 pub mod Begun
+pub mod Runs
+pub mod Between

@@ -3,6 +3,7 @@ use Prim.Native.Nat.{ℕ}
 use mathlib.Core.List.{List}
 use Rattle.model.specs.State as Model
 use Rattle.model.specs.Request as Request
+use Rattle.model.specs.Tick as Tick
 use Rattle.model.specs.Drain as Drain
 use Rattle.service.specs.Act.{actOf}
 use Rattle.state.specs.View.{stateOf}
@@ -11,6 +12,7 @@ use Rattle.server.specs.declared.fresh.Server.{Server}
 use Rattle.server.specs.declared.fresh.Fresh.{Fresh}
 use Rattle.server.specs.declared.pending.ServerAnswer.{ServerAnswer}
 use Rattle.server.specs.declared.request.ServerAnswered.{ServerAnswered}
+use Rattle.server.specs.declared.tick.ServerTicked.{ServerTicked}
 
 -- the server that holds its arrays
 abbrev pub serverOf : Server → Model.State
@@ -24,6 +26,10 @@ stepOf r = record { result = r .result; state = serverOf (r .server) }
 
 abbrev pub answeredOf : ServerAnswered → Request.Answer
 answeredOf r = record { act = actOf (r .act); step = record { result = r .result; state = serverOf (r .server) } }
+
+-- what a tick leaves, and the error byte that comes with 8
+abbrev pub tickedOf : ServerTicked → Tick.Ticked
+tickedOf r = record { err = r .err; step = record { result = r .result; state = serverOf (r .server) } }
 
 -- what a drain leaves, and the buffer
 abbrev pub drainedOf : ServerDrained → List ℕ → Drain.Drained

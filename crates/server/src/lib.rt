@@ -3,3 +3,4 @@ pub mod drain;
 pub mod fresh;
 pub mod pending;
 pub mod request;
+pub mod tick;

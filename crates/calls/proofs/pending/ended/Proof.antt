@@ -10,11 +10,11 @@ use Rattle.calls.proofs.pending.ended.Reads as reads
 use Rattle.calls.proofs.pending.ended.Lts as lts
 use Rattle.state.proofs.PendingRequest.new.Reads as new-reads
 
--- src/pending.rt:32:18
+-- src/pending.rt:57:9
 new-requires : tie.Need-new-requires
 new-requires c κs = search needs
 
--- src/pending.rt:26:1
+-- src/pending.rt:53:1
 returns : tie.Need-returns
 returns c = record { state = λ config k subs heads room heads' room'. ap (λ (p : Option Model.PendingRequest). Model.withQueue (Model.withPending (stateOf config (c .before .before .args .s) k subs heads room) p) (queueOf (c .before .before .args .frames) heads' room')) (c .new .ensures) }
 

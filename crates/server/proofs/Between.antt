@@ -1,0 +1,66 @@
+-- The key stands between, of the code: two runs from a fresh server whose calls differ only in what the value tables say of an identifier behind a level,
+-- and in the key bytes of sendKey, show the same and leave the same while the held level is below. And what a question says, and what is not seen.
+use Prim.Native.Nat.{ℕ, suc, zero, _≤_, _<_}
+use mathlib.Core.Path.{_≡_, refl, ap, sym, _∙_}
+use mathlib.Core.List.{List, [], _∷_}
+use native.Mathlib.Omega.{arith}
+use lib.ListN.{length, take}
+use Rattle.model.specs.Numbers.{maxFrame}
+use Rattle.model.specs.Config.{findDid, levelOf}
+use Rattle.model.specs.Values.{Given, Table}
+use Rattle.model.specs.State as Model
+use Rattle.model.specs.Request.{Inbound}
+use Rattle.model.specs.History.{Call, requests, questions, Shown, Done, call, run, shows}
+use Rattle.model.specs.Alike.{Alike, OffPage}
+use Rattle.model.proofs.Acts.{told, question-act, question-result}
+use Rattle.model.proofs.StandsBetween.{between}
+use Rattle.config.specs.View.{configOf}
+use Rattle.server.specs.declared.fresh.Fresh.{Fresh}
+use Rattle.server.proofs.fresh.Server.fresh.Reads as fresh
+use Rattle.server.proofs.Runs.{Held, heldOf, within, Does, does-so, Runs, end, and, runs-show, runs-leave}
+
+-- what a request reports is what a question said beforehand, whatever is handed in with it
+pub reports-the-question : {m m1 m2 : Held} (i : Inbound) (g : Given) (t : Table) {x y : Shown} → Does m (questions i) x m1 → Does m (requests (record { inbound = i; given = g; table = t })) y m2
+    → (y .act ≡ x .act) × (x .result ≡ told (y .result)) × (heldOf m1 ≡ heldOf m)
+unfolding call
+reports-the-question {m = m} i g t d e =
+    let p = does-so d in
+    let q = does-so e in (
+      ap (λ (z : Done). z .shown .act) (sym q) ∙ question-act maxFrame i g t (heldOf m) ∙ ap (λ (z : Done). z .shown .act) p,
+      ap (λ (z : Done). z .shown .result) (sym p) ∙ question-result maxFrame i g t (heldOf m) ∙ ap (λ (z : Done). told (z .shown .result)) q,
+      ap (λ (z : Done). z .state) (sym p),
+    )
+
+-- what the definition leaves out, the bytes and words that do not count, is shown by no later call: two memories that are seen alike go on alike
+pub unseen : {m n m' n' : Held} {h : List Call} {xs ys : List Shown} → heldOf m ≡ heldOf n → Runs m h xs m' → Runs n h ys n' → (xs ≡ ys) × (heldOf m' ≡ heldOf n')
+unseen {h = h} e r q = (runs-show r ∙ ap (λ (s : Model.State). shows maxFrame s h) e ∙ sym (runs-show q), runs-leave r ∙ ap (λ (s : Model.State). run maxFrame s h) e ∙ sym (runs-leave q))
+
+-- the held level is below before each call of a run
+pub Below : ℕ → {m m' : Held} {h : List Call} {xs : List Shown} → Runs m h xs m' → Type 0
+Below level end = Unit {0}
+Below level (and {m = m} d r) = (m .state .session .level < level) × Below level r
+
+-- which is to say, in the definition's states
+below : (level : ℕ) {m m' : Held} {h : List Call} {xs : List Shown} (r : Runs m h xs m') → Below level r → (i : ℕ) → i < length h → run maxFrame (heldOf m) (take i h) .session .level < level
+below level end b i l = absurd (omega arith)
+below level (and d r) (b, bs) zero l = b
+below level (and {h = h} d r) (b, bs) (suc i) l = rw (does-so d) (below level r bs i (omega arith))
+
+-- a history is all of its calls
+whole : (h : List Call) → take (length h) h ≡ h
+whole [] = refl
+whole (c ∷ h) = ap (c ∷_) (whole h)
+
+as-long : {x : ℕ} {h k : List Call} → Alike x h k → length h ≡ length k
+as-long Alike.end = refl
+as-long (Alike.and a b) = ap suc (as-long b)
+
+-- from a fresh server, for an identifier off the page F200 to F2FF whose first row has a level above zero
+pub key-stands-between : (κs : _) (a : _) (r : Fresh) (e : _) → fresh.Post κs a r e → (x level : ℕ) → OffPage x → levelOf (findDid (Model.fresh (configOf (a .0)) .state .config) x) ≡ level → 0 < level
+    → {h k : List Call} → Alike x h k → {xs ys : List Shown} {m n : Held} (p : Runs (within (r .server)) h xs m) → Runs (within (r .server)) k ys n → Below level p
+    → (xs ≡ ys) × (heldOf m ≡ heldOf n)
+key-stands-between κs a r e f x level off row high {h = h} {k = k} alike p q b =
+    let s : heldOf (within (r .server)) ≡ Model.fresh (configOf (a .0)) .state = ap (λ (z : Model.Step). z .state) f in
+    let all : take (length h) k ≡ k = ap (λ (n : ℕ). take n k) (as-long alike) ∙ whole k in
+    let z = between maxFrame (configOf (a .0)) x level off row high h k alike (length h) (λ i l. rw s at (below level p b i l)) in
+    (runs-show p ∙ rw (s, whole h, all) at (z .0) ∙ sym (runs-show q), runs-leave p ∙ z .1 ∙ sym (runs-leave q))
