@@ -1,7 +1,7 @@
 -- The key stands between, of the code: two runs from a fresh server whose calls differ only in what the value tables say of an identifier behind a level,
 -- and in the key bytes of sendKey, show the same and leave the same while the held level is below. And what a question says, and what is not seen.
 use Prim.Native.Nat.{ℕ, suc, zero, _≤_, _<_}
-use mathlib.Core.Path.{_≡_, refl, ap, sym, _∙_}
+use mathlib.Core.Path.{_≡_, refl, ap, ap₂, sym, _∙_, subst}
 use mathlib.Core.List.{List, [], _∷_}
 use native.Mathlib.Omega.{arith}
 use lib.ListN.{length, take}
@@ -36,15 +36,15 @@ pub unseen : {m n m' n' : Held} {h : List Call} {xs ys : List Shown} → heldOf 
 unseen {h = h} e r q = (runs-show r ∙ ap (λ (s : Model.State). shows maxFrame s h) e ∙ sym (runs-show q), runs-leave r ∙ ap (λ (s : Model.State). run maxFrame s h) e ∙ sym (runs-leave q))
 
 -- the held level is below before each call of a run
-pub Below : ℕ → {m m' : Held} {h : List Call} {xs : List Shown} → Runs m h xs m' → Type 0
+abbrev pub Below : ℕ → {m m' : Held} {h : List Call} {xs : List Shown} → Runs m h xs m' → Type 0
 Below level end = Unit {0}
 Below level (and {m = m} d r) = (m .state .session .level < level) × Below level r
 
 -- which is to say, in the definition's states
 below : (level : ℕ) {m m' : Held} {h : List Call} {xs : List Shown} (r : Runs m h xs m') → Below level r → (i : ℕ) → i < length h → run maxFrame (heldOf m) (take i h) .session .level < level
 below level end b i l = absurd (omega arith)
-below level (and d r) (b, bs) zero l = b
-below level (and {h = h} d r) (b, bs) (suc i) l = rw (does-so d) (below level r bs i (omega arith))
+below level (and d r) b zero l = b .0
+below level (and {h = h} d r) b (suc i) l = subst (λ (y : Done). run maxFrame (y .state) (take i h) .session .level < level) (sym (does-so d)) (below level r (b .1) i (omega arith))
 
 -- a history is all of its calls
 whole : (h : List Call) → take (length h) h ≡ h
@@ -55,12 +55,21 @@ as-long : {x : ℕ} {h k : List Call} → Alike x h k → length h ≡ length k
 as-long Alike.end = refl
 as-long (Alike.and a b) = ap suc (as-long b)
 
--- from a fresh server, for an identifier off the page F200 to F2FF whose first row has a level above zero
-pub key-stands-between : (κs : _) (a : _) (r : Fresh) (e : _) → fresh.Post κs a r e → (x level : ℕ) → OffPage x → levelOf (findDid (Model.fresh (configOf (a .0)) .state .config) x) ≡ level → 0 < level
-    → {h k : List Call} → Alike x h k → {xs ys : List Shown} {m n : Held} (p : Runs (within (r .server)) h xs m) → Runs (within (r .server)) k ys n → Below level p
+-- a run of a whole history, from a memory that is seen as some state
+from : {m m' : Held} {h : List Call} {xs : List Shown} (s : Model.State) → heldOf m ≡ s → Runs m h xs m' → (n : ℕ) → take n h ≡ h → (xs ≡ shows maxFrame s (take n h)) × (heldOf m' ≡ run maxFrame s (take n h))
+from s e r n w = (runs-show r ∙ ap₂ (shows maxFrame) e (sym w), runs-leave r ∙ ap₂ (run maxFrame) e (sym w))
+
+-- two fresh servers of one configuration; an identifier off the page F200 to F2FF whose first row has a level above zero
+pub key-stands-between : (κs : _) (a : _) (r : Fresh) (e : _) → fresh.Post κs a r e → (r' : Fresh) (e' : _) → fresh.Post κs a r' e'
+    → (x level : ℕ) → OffPage x → levelOf (findDid (Model.fresh (configOf (a .0)) .state .config) x) ≡ level → 0 < level
+    → {h k : List Call} → Alike x h k → {xs ys : List Shown} {m n : Held} (p : Runs (within (r .server)) h xs m) → Runs (within (r' .server)) k ys n → Below level p
     → (xs ≡ ys) × (heldOf m ≡ heldOf n)
-key-stands-between κs a r e f x level off row high {h = h} {k = k} alike p q b =
-    let s : heldOf (within (r .server)) ≡ Model.fresh (configOf (a .0)) .state = ap (λ (z : Model.Step). z .state) f in
-    let all : take (length h) k ≡ k = ap (λ (n : ℕ). take n k) (as-long alike) ∙ whole k in
-    let z = between maxFrame (configOf (a .0)) x level off row high h k alike (length h) (λ i l. rw s at (below level p b i l)) in
-    (runs-show p ∙ rw (s, whole h, all) at (z .0) ∙ sym (runs-show q), runs-leave p ∙ z .1 ∙ sym (runs-leave q))
+key-stands-between κs a r e f r' e' f' x level off row high {h = h} {k = k} alike p q b =
+    let s = Model.fresh (configOf (a .0)) .state in
+    let begun : heldOf (within (r .server)) ≡ s = ap (λ (y : Model.Step). y .state) f in
+    let begun' : heldOf (within (r' .server)) ≡ s = ap (λ (y : Model.Step). y .state) f' in
+    let low : (i : ℕ) → i < length h → run maxFrame s (take i h) .session .level < level = λ i l. subst (λ (y : Model.State). run maxFrame y (take i h) .session .level < level) begun (below level p b i l) in
+    let z = between maxFrame (configOf (a .0)) x level off row high h k alike (length h) low in
+    let one = from s begun p (length h) (whole h) in
+    let two = from s begun' q (length h) (ap (λ (n : ℕ). take n k) (as-long alike) ∙ whole k) in
+    (one .0 ∙ z .0 ∙ sym (two .0), one .1 ∙ z .1 ∙ sym (two .1))

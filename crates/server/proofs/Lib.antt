@@ -1,3 +1,4 @@
 pub mod Begun
 pub mod Runs
 pub mod Between
+pub mod Settled

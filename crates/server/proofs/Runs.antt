@@ -103,7 +103,7 @@ pub data Runs : Held → List Call → List Shown → Held → Type 0 where
 -- what it shows, and what it leaves
 pub runs-show : {m m' : Held} {h : List Call} {xs : List Shown} → Runs m h xs m' → xs ≡ shows maxFrame (heldOf m) h
 runs-show end = refl
-runs-show (and {h = h} d r) = ap₂ (λ (y : Done) (ys : List Shown). y .shown ∷ ys) (sym (does-so d)) (runs-show r) ∙ ap (λ (y : Done). _ ∷ shows maxFrame (y .state) h) (sym (does-so d))
+runs-show (and {x = x} {h = h} d r) = ap (x ∷_) (runs-show r) ∙ ap (λ (y : Done). y .shown ∷ shows maxFrame (y .state) h) (sym (does-so d))
 
 pub runs-leave : {m m' : Held} {h : List Call} {xs : List Shown} → Runs m h xs m' → heldOf m' ≡ run maxFrame (heldOf m) h
 runs-leave end = refl
