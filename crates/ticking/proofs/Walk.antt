@@ -90,10 +90,10 @@ module _ (subs : List ℕ) (i frames : ℕ) (heads room : List ℕ) (t : Moment)
         same : queueOf (p .count) heads' room' ≡ queueOf frames heads room
         same = ap (λ (x : QueueStep). x .queue) q ∙ sent-stays (queueOf frames heads room) (e .client) (e .identifier % 256 ∷ b) (λ z. n (ap (λ (x : QueueStep). x .result) q ∙ z))
 
-    pub frame-sent : (subs' : List ℕ) (count : ℕ) → p .result ≡ 0 → count ≤ maxPeriodic → i < count → Advances subs count i t subs' → Going-on (record { frames = p .count; result = 0; err = 0 }) subs' heads' room'
+    pub frame-sent : (subs' : List ℕ) (count : ℕ) → p .result ≡ 0 → count ≤ maxPeriodic → i < count → Advances subs count i t subs' → Going-on (record { frames = p .count; result = p .result; err = 0 }) subs' heads' room'
     unfolding passed
     frame-sent subs' count n l h a = record {
-      passed = λ es. ap (λ (x : Subscription). record { result = 0; err = 0; entries = es ++ (x ∷ []); queue = queueOf (p .count) heads' room' }) (a .here l h) ∙ rw (eq-eqb (p .result) 0 n) at (goes es);
+      passed = λ es. ap₂ (λ (m : ℕ) (x : Subscription). record { result = m; err = 0; entries = es ++ (x ∷ []); queue = queueOf (p .count) heads' room' }) n (a .here l h) ∙ rw (eq-eqb (p .result) 0 n) at (goes es);
       clean = λ z. refl;
       others = a .others;
     }

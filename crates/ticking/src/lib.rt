@@ -153,19 +153,16 @@ fn send_entry(
             let end = start + len;
             let first = (e.identifier % 256) as u8;
             let p = send_value(frames, heads, room, e.client, first, &pool[start..end]);
+            let sent = Sent {
+                frames: p.count,
+                result: p.result,
+                err: 0,
+            };
             if p.result != DONE {
-                return Sent {
-                    frames: p.count,
-                    result: p.result,
-                    err: 0,
-                };
+                return sent;
             }
             periodic::advance(subs, count, i, t);
-            Sent {
-                frames: p.count,
-                result: DONE,
-                err: 0,
-            }
+            sent
         }
     }
 }
