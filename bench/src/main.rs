@@ -6,6 +6,7 @@
 //!   bench count SIDE CASE N  runs a case N times, to be counted by valgrind
 //!   bench state ..           the same of the state: `state/mod.rs`
 //!   bench service ..         each service alone: `service/mod.rs`
+//!   bench server ..          the server's calls: `server/mod.rs`
 
 mod cases;
 mod compare;
@@ -14,6 +15,7 @@ mod ours;
 mod plain;
 mod published;
 mod queue;
+mod server;
 mod service;
 mod stack;
 mod state;
@@ -114,6 +116,7 @@ fn main() -> ExitCode {
         },
         ["state", ref rest @ ..] => return state::run(rest),
         ["service", ref rest @ ..] => return service::run(rest),
+        ["server", ref rest @ ..] => return server::run(rest),
         ["time"] => times(),
         ["stack"] => stacks(),
         ["cases"] => {
@@ -126,7 +129,7 @@ fn main() -> ExitCode {
         ["count", "2", case, n] => run::<Plain>(number(case) as usize, number(n)),
         _ => {
             println!(
-                "bench compare | time | stack | cases | count SIDE CASE N | state .. | service .."
+                "bench compare | time | stack | cases | count SIDE CASE N | state .. | service .. | server .."
             );
             return ExitCode::from(2);
         }

@@ -43,10 +43,10 @@ fn depth<Q>(job: &mut Job<Q>) -> usize {
     top - stack.as_ptr() as usize - 8 * untouched.count()
 }
 
-fn deepest<Q>(case: &Case<Q>, run: fn(&mut Q, &mut [u8])) -> usize {
+fn deepest<Q>(made: &impl Fn() -> Q, lent: usize, run: fn(&mut Q, &mut [u8])) -> usize {
     let once = |_| {
-        let mut queue = Box::new((case.made)());
-        let mut out = vec![0; case.lent];
+        let mut queue = Box::new(made());
+        let mut out = vec![0; lent];
         depth(&mut Job {
             run,
             queue: &mut *queue,
@@ -59,6 +59,10 @@ fn deepest<Q>(case: &Case<Q>, run: fn(&mut Q, &mut [u8])) -> usize {
 
 /// Bytes of stack below the caller: arguments on the stack, return address, and the frames of all that is called. What the way there
 /// takes is left out.
+pub fn touched<Q>(made: &impl Fn() -> Q, lent: usize, run: fn(&mut Q, &mut [u8])) -> usize {
+    deepest(made, lent, run) - deepest(made, lent, |_, _| {})
+}
+
 pub fn of<Q>(case: &Case<Q>) -> usize {
-    deepest(case, case.run) - deepest(case, |_, _| {})
+    touched(&case.made, case.lent, case.run)
 }

@@ -4,46 +4,8 @@ mod full;
 mod show;
 
 use config::Config;
-use config::build;
 use lines::Line;
 use show::flag;
-use uds::clock::Duration;
-use uds::rows::DidConfig;
-use uds::rows::SecurityLevelConfig;
-use uds::rows::ServiceConfig;
-use uds::rows::SessionConfig;
-
-fn services(mut c: Config) -> Config {
-    let all = b"\x3E\x10\x11\x27\x22\x2E\x2A\x31\x28\x2F\x34\x36\x37\x38";
-    let mut i = 0;
-    while i < 14 {
-        let next = build::with_service(c, ServiceConfig::new(all[i], b"\x01\x03"));
-        c = next;
-        i += 1;
-    }
-    c
-}
-
-fn fixed() -> Config {
-    let both = b"\x01\x03";
-    let a = build::with_session(build::new(16, 2015), SessionConfig::default_session());
-    let b = services(build::with_session(a, SessionConfig::extended_session()));
-    let first = DidConfig::read_write(0xF190, both, both)
-        .secured(3)
-        .periodic(Duration::ZERO);
-    let second = DidConfig::read_write(0xF201, both, both).periodic(Duration::ZERO);
-    let c = build::with_did(build::with_did(b, first), second);
-    build::with_security_level(
-        c,
-        SecurityLevelConfig {
-            level: 3,
-            max_attempts: 3,
-            lockout_duration: Duration(10_000),
-            seed_length: 4,
-            key_length: 4,
-        },
-    )
-}
 
 fn rows(c: &Config) {
     show::session(c, 1);
@@ -77,7 +39,7 @@ fn sessions_listed(c: &Config) {
 }
 
 fn main() {
-    let c = fixed();
+    let c = fixed::configuration();
     flag(b"fixed: within", config::within(&c));
     rows(&c);
     more_rows(&c);

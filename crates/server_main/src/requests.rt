@@ -1,5 +1,7 @@
 // Requests by the lent door, one after the other on one server: of each a line has the result, session, level, the act's number and, where a frame was
 // queued, its record. F190 needs level 3: it is read before the key and after it.
+use calls::drain::drain;
+use calls::request::request;
 use config::Config;
 use config::build;
 use lines::Line;
@@ -8,8 +10,6 @@ use queue::Heads;
 use queue::Room;
 use security::Security;
 use security::SecurityState;
-use server::drain::drain;
-use server::request::request;
 use state::State;
 use uds::clock::Duration;
 use uds::clock::Instant;

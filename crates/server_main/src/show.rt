@@ -45,7 +45,7 @@ pub(crate) fn lent<'a>(
     room: &'a Room,
     out: &mut [u8],
 ) -> State {
-    let d = server::drain::drain(c, s, &[0; 68], &[0; 64], heads, room, out);
+    let d = calls::drain::drain(c, s, &[0; 68], &[0; 64], heads, room, out);
     let left = d.state;
     drained(what, d.result, d.frames, left.frames, out);
     left
