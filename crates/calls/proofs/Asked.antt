@@ -7,7 +7,7 @@ use mathlib.Core.Option.{Option, some, none}
 use native.Mathlib.Omega.{arith}
 use lib.ListN.{length}
 use lib.Dec.{eqb, leb, ltb}
-use borrow.Author.Tests.{eq-eqb, ne-eqb, le-leb, lt-leb, le-ltb, lt-ltb, leb-true, leb-false, eqb-true, not-true, not-false}
+use borrow.Author.Tests.{le-leb, eqb-true, not-true, not-false}
 use Rattle.model.specs.Tests.{pick}
 use Rattle.model.specs.Numbers.{maxFrame, maxTime, maxPeriodic}
 use Rattle.model.specs.Config.{Config, ServiceConfig, findService, allowedIn, tableWithin}
@@ -41,38 +41,13 @@ use Rattle.access.specs.Access.{ready27, access27}
 use Rattle.transmission.specs.View2A.{guarded2A}
 use Rattle.dispatch.specs.Rules as Rules
 use Rattle.dispatch.specs.Seen.{seenOf}
-use Rattle.calls.specs.Gate.{barring}
-use Rattle.calls.specs.Request.{addressedOf, requestOf, answerOf, Hears, wantedBy}
-use Rattle.calls.specs.declared.Address.{Address}
-use Rattle.calls.specs.declared.Address.the-variants.{By, Foreign}
+use Rattle.entry.specs.Address.{addressedOf}
+use Rattle.entry.specs.Gate.{barring}
+use Rattle.entry.specs.declared.Address.{Address}
+use Rattle.entry.specs.declared.Address.the-variants.{By, Foreign}
+use Rattle.entry.proofs.Gate.{barred-so, let-through}
+use Rattle.calls.specs.Request.{requestOf, answerOf, Hears, wantedBy}
 use Rattle.calls.specs.declared.request.Answered.{Answered}
-use Rattle.calls.proofs.Gate.{barred-so, let-through}
-
--- whom a frame is for
-module _ (c : Config) (dst : ℕ) where
-  pub to-physical : dst ≡ c .physical → some physical ≡ Definition.addressed c dst
-  unfolding Definition.addressed
-  to-physical e = rw (eq-eqb dst (c .physical) e)
-
-  module _ (n : dst ≡ c .physical → ⊥) where
-    pub to-functional : dst ≡ c .functional → some functional ≡ Definition.addressed c dst
-    unfolding Definition.addressed
-    to-functional e = rw (ne-eqb dst (c .physical) n, eq-eqb dst (c .functional) e)
-
-    pub to-another : (dst ≡ c .functional → ⊥) → none ≡ Definition.addressed c dst
-    unfolding Definition.addressed
-    to-another e = rw (ne-eqb dst (c .physical) n, ne-eqb dst (c .functional) e)
-
--- whether its length fits
-pub empty : (f : List ℕ) (on : Bool) → on ≡ false → length f < 1 → true ≡ pick on false (not (lengthFits f))
-empty f on e h = rw (e, lt-leb 1 (length f) h)
-
-pub by-length : (f : List ℕ) (on : Bool) → on ≡ false → 1 ≤ length f → ltb 4095 (length f) ≡ pick on false (not (lengthFits f))
-by-length f on e h = rw (e, le-leb 1 (length f) h) (go (leb (length f) 4095) refl)
-  where
-    go : (b : Bool) → leb (length f) 4095 ≡ b → ltb 4095 (length f) ≡ not b
-    go true z = le-ltb 4095 (length f) (leb-true (length f) 4095 z)
-    go false z = lt-ltb 4095 (length f) (leb-false (length f) 4095 z)
 
 -- where the numbers are kept the dispatch is the definition's
 module _ (v : Seen) (a : ready27 (v .config) (v .security) (v .now) ≡ true) (b : (leb (length (v .periodic)) maxPeriodic && leb (v .now) maxTime) ≡ true) where

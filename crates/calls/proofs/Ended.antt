@@ -3,10 +3,12 @@ use Prim.Native.Nat.{ℕ}
 use mathlib.Core.Path.{_≡_, refl, ap, ap₂, sym, _∙_}
 use mathlib.Core.Bool.{Bool, true, false}
 use mathlib.Core.List.{List, []}
-use mathlib.Core.Option.{some, none}
+use mathlib.Core.Option.{Option, some, none}
 use native.Mathlib.Omega.{arith}
+use lib.Dec.{leb}
+use borrow.Author.Tests.{le-leb}
 use Rattle.model.specs.Tests.{pick}
-use Rattle.model.specs.Numbers.{maxFrame}
+use Rattle.model.specs.Numbers.{maxFrame, maxTime}
 use Rattle.model.specs.Frame.{Frame, negativeFrame}
 use Rattle.model.specs.State as Model
 use Rattle.model.specs.State.{AddressMode, PendingRequest, withPending}
@@ -21,9 +23,48 @@ use Rattle.queue.proofs.Replied.{made}
 use Rattle.queue.specs.declared.reply.Pushed.{Pushed}
 use Rattle.state.specs.View.{pendingOf, stateOf, stepOf}
 use Rattle.state.specs.declared.State.{State}
-use Rattle.calls.specs.Gate.{unlessPending, ending}
-use Rattle.calls.specs.Pending.{Ends}
-use Rattle.calls.proofs.Gate.{ended-barred, ended-through}
+use Rattle.entry.specs.Gate.{barring}
+use Rattle.entry.proofs.Gate.{let-through}
+use Rattle.calls.specs.Pending.{unlessPending, ending, Ends}
+
+-- 1 after 10 and 6
+module _ (s : Model.State) (t : ℕ) where
+  -- complete and fail ask for a pending request too
+  module _ (n : ℕ) (g : n ≡ barring s t) where
+    pub ends-barred : (n ≡ 0 → ⊥) → n ≡ ending s t
+    unfolding barring ending
+    ends-barred z = go (Model.valid maxFrame s) (leb t maxTime) g
+      where
+        go : (v b : Bool) → n ≡ pick v (pick b 0 6) 10 → n ≡ pick v (pick b (unlessPending (s .pending)) 6) 10
+        go false b e = e
+        go true false e = e
+        go true true e = absurd (z e)
+
+    pub ends-through : n ≡ 0 → unlessPending (s .pending) ≡ ending s t
+    unfolding ending
+    ends-through z = let p = let-through s t n g z in rw (p .0, le-leb t maxTime (p .1))
+
+  pub ended-barred : {A : Type 0} (refused : ℕ → A) (end : Option PendingRequest → A) (n : ℕ) → n ≡ ending s t → (n ≡ 0 → ⊥) → end none ≡ refused 1
+      → refused n ≡ pick (Model.valid maxFrame s) (pick (leb t maxTime) (end (s .pending)) (refused 6)) (refused 10)
+  unfolding ending
+  ended-barred refused end n = go (Model.valid maxFrame s) (leb t maxTime) (s .pending)
+    where
+      go : (v b : Bool) (o : Option PendingRequest) → n ≡ pick v (pick b (unlessPending o) 6) 10 → (n ≡ 0 → ⊥) → end none ≡ refused 1 → refused n ≡ pick v (pick b (end o) (refused 6)) (refused 10)
+      go false b o e z f = rw e
+      go true false o e z f = rw e
+      go true true none e z f = rw (e, f)
+      go true true (some p) e z f = absurd (z e)
+
+  pub ended-through : {A : Type 0} (refused : ℕ → A) (end : Option PendingRequest → A) (n : ℕ) → n ≡ ending s t → n ≡ 0
+      → (unlessPending (s .pending) ≡ 0) × (end (s .pending) ≡ pick (Model.valid maxFrame s) (pick (leb t maxTime) (end (s .pending)) (refused 6)) (refused 10))
+  unfolding ending
+  ended-through refused end n g z = go (Model.valid maxFrame s) (leb t maxTime) (s .pending) (sym z ∙ g)
+    where
+      go : (v b : Bool) (o : Option PendingRequest) → _≡_ {A = ℕ} 0 (pick v (pick b (unlessPending o) 6) 10) → (unlessPending o ≡ 0) × (end o ≡ pick v (pick b (end o) (refused 6)) (refused 10))
+      go false b o e = absurd (omega arith)
+      go true false o e = absurd (omega arith)
+      go true true none e = absurd (omega arith)
+      go true true (some p) e = (refl, refl)
 
 -- a payload made where it will wait, or found too long in the making, is confirmed
 confirms : (mode : AddressMode) (q : List Frame) (to sid : ℕ) (payload : List ℕ) (o : Reading) → o ≡ appended maxFrame [] payload → answered maxFrame mode q to sid (readReply o) ≡ Queue.confirmed maxFrame mode q to sid payload

@@ -1,4 +1,3 @@
-pub mod Gate
 pub mod Drained
 pub mod Asked
 pub mod Questioned

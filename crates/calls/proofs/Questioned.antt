@@ -27,13 +27,14 @@ use Rattle.state.specs.View.{stateOf}
 use Rattle.state.specs.declared.State.{State}
 use Rattle.dispatch.specs.Rules.{guarded}
 use Rattle.dispatch.specs.Seen.{seenOf}
-use Rattle.calls.specs.Gate.{barring}
-use Rattle.calls.specs.Request.{addressedOf, wantedBy}
+use Rattle.entry.specs.Gate.{barring}
+use Rattle.entry.specs.Address.{addressedOf}
+use Rattle.calls.specs.Request.{wantedBy}
 use Rattle.calls.specs.View.{inboundOf, askedOf}
-use Rattle.calls.specs.declared.Address.{Address}
-use Rattle.calls.specs.declared.Address.the-variants.{By, Foreign}
+use Rattle.entry.specs.declared.Address.{Address}
+use Rattle.entry.specs.declared.Address.the-variants.{By, Foreign}
 use Rattle.calls.specs.declared.question.Asked.{Asked}
-use Rattle.calls.proofs.Gate.{barred-so}
+use Rattle.entry.proofs.Gate.{barred-so}
 use Rattle.calls.proofs.Asked.{to-none, refused-2, answers-so}
 
 -- 10 and 6 are told as they are

@@ -13,9 +13,9 @@ use Rattle.state.specs.declared.apply.Said.{Said}
 use Rattle.ticking.specs.View.{Lapses, Refreshes, Sends}
 use Rattle.ticking.specs.declared.Sent.{Sent}
 use Rattle.ticking.proofs.Ticked.{leaving, tick-3, tick-sent}
-use Rattle.calls.specs.Gate.{barring}
+use Rattle.entry.specs.Gate.{barring}
 use Rattle.calls.specs.View.{tickOf}
-use Rattle.calls.proofs.Gate.{barred-so, let-through}
+use Rattle.entry.proofs.Gate.{barred-so, let-through}
 
 module _ (w : List ℕ) (s : State) (k subs heads room : List ℕ) (t : ℕ) (values pool : List ℕ) where
   abbrev before : Model.State

@@ -1,4 +1,3 @@
-pub mod Gate
 pub mod Pending
 pub mod Request
 pub mod View

@@ -3,10 +3,9 @@ use Prim.Native.Nat.{ℕ}
 use mathlib.Core.Path.{_≡_}
 use mathlib.Core.Bool.{Bool}
 use mathlib.Core.List.{List}
-use mathlib.Core.Option.{Option, some, none}
 use Rattle.model.specs.Tests.{pick}
 use Rattle.model.specs.Numbers.{Moment}
-use Rattle.model.specs.State.{AddressMode, step, received}
+use Rattle.model.specs.State.{step, received}
 use Rattle.model.specs.Queue.{always}
 use Rattle.model.specs.Service.{Seen, Served, says, answers}
 use Rattle.model.specs.Request as Definition
@@ -16,13 +15,7 @@ use Rattle.service.specs.Act.{actOf}
 use Rattle.state.specs.View.{stateOf}
 use Rattle.state.specs.declared.State.{State}
 use Rattle.dispatch.specs.Rules.{guarded}
-use Rattle.calls.specs.declared.Address.{Address}
-use Rattle.calls.specs.declared.Address.the-variants.{By, Foreign}
 use Rattle.calls.specs.declared.request.Answered.{Answered}
-
-abbrev pub addressedOf : Address → Option AddressMode
-addressedOf (By functional) = some (modeOf functional)
-addressedOf Foreign = none
 
 abbrev pub requestOf : Moment → ℕ → ℕ → List ℕ → ℕ → List ℕ → List ℕ → List ℕ → Definition.Request
 requestOf t src dst frame err given values pool = record { inbound = record { time = t; src = src; dst = dst; frame = frame }; given = record { err = err; bytes = given }; table = Values.tableOf values pool }

@@ -6,8 +6,7 @@ ghost use Rattle.model.specs.Queue as Queue;
 ghost use Rattle.queue.specs.View as View;
 ghost use Rattle.queue.specs.View.{queueOf, modeOf};
 ghost use Rattle.state.specs.View.{stateOf, stepOf};
-ghost use Rattle.calls.specs.Gate.{ending};
-ghost use Rattle.calls.specs.Pending.{Ends};
+ghost use Rattle.calls.specs.Pending.{ending, Ends};
 use config::Config;
 use periodic::Subscriptions;
 use queue::Heads;
@@ -38,7 +37,7 @@ fn barred(
 ) -> u8
     ensures { λ r. ⌜ r ≡ ending (stateOf (now (config .entry)) s (now (k .entry)) (now (subs .entry)) (now (heads .entry)) (now (room .entry))) (t .0) ⌝ }
 {
-    let n = super::barred(config, s, k, subs, heads, room, t);
+    let n = entry::barred(config, s, k, subs, heads, room, t);
     if n != DONE {
         return n;
     }

@@ -5,8 +5,8 @@ ghost use Rattle.model.specs.Question as Model;
 ghost use Rattle.model.specs.Service.{noAct};
 ghost use Rattle.state.specs.View.{stateOf};
 ghost use Rattle.calls.specs.View.{inboundOf, askedOf};
-use super::Address;
 use config::Config;
+use entry::Address;
 use periodic::Subscriptions;
 use queue::Heads;
 use queue::Room;
@@ -47,16 +47,16 @@ pub fn question<'a>(
 ) -> Asked
     ensures { λ r. ⌜ askedOf r ≡ Model.question maxFrame (stateOf (now (config .entry)) s (now (k .entry)) (now (subs .entry)) (now (heads .entry)) (now (room .entry))) (inboundOf (t .0) src dst (now (frame .entry))) ⌝ }
 {
-    let n = super::barred(config, s, k, subs, heads, room, t);
+    let n = entry::barred(config, s, k, subs, heads, room, t);
     if n != DONE {
         return nothing(n);
     }
-    let Address::By(_) = super::addressed(config, dst) else {
+    let Address::By(_) = entry::addressed(config, dst) else {
         return nothing(DONE);
     };
     let pending = s.pending;
     let on = pending.on;
-    if super::misfits(on, frame) {
+    if entry::misfits(on, frame) {
         return nothing(FRAME_LENGTH);
     }
     if on {

@@ -10,8 +10,8 @@ ghost use Rattle.service.specs.Act.{actOf};
 ghost use Rattle.service.specs.Seen.{Serves};
 ghost use Rattle.dispatch.specs.Seen.{seenOf};
 ghost use Rattle.calls.specs.Request.{wantedBy, Hears, requestOf, answerOf};
-use super::Address;
 use config::Config;
+use entry::Address;
 use periodic::Subscriptions;
 use queue::Heads;
 use queue::Room;
@@ -143,16 +143,16 @@ pub fn request(
 ) -> Answered
     ensures { λ r. ⌜ answerOf (now (config .entry)) r (now (k .exit)) (now (subs .exit)) (now (heads .exit)) (now (room .exit)) ≡ Model.request maxFrame (stateOf (now (config .entry)) s (now (k .entry)) (now (subs .entry)) (now (heads .entry)) (now (room .entry))) (requestOf (t .0) src dst (now (frame .entry)) err (now (given .entry)) (now (values .entry)) (now (pool .entry))) ⌝ }
 {
-    let n = super::barred(config, s, k, subs, heads, room, t);
+    let n = entry::barred(config, s, k, subs, heads, room, t);
     if n != DONE {
         return unasked(s, n);
     }
-    let Address::By(functional) = super::addressed(config, dst) else {
+    let Address::By(functional) = entry::addressed(config, dst) else {
         return unasked(s, DONE);
     };
     let pending = s.pending;
     let on = pending.on;
-    if super::misfits(on, frame) {
+    if entry::misfits(on, frame) {
         return unasked(heard(s, t, functional), FRAME_LENGTH);
     }
     let session = s.session;

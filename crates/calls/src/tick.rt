@@ -36,7 +36,7 @@ pub fn tick(
 ) -> Ticked
     ensures { λ r. ⌜ tickOf (now (config .entry)) r (now (k .exit)) (now (subs .exit)) (now (heads .exit)) (now (room .exit)) ≡ Model.tick maxFrame (stateOf (now (config .entry)) s (now (k .entry)) (now (subs .entry)) (now (heads .entry)) (now (room .entry))) (t .0) (tableOf (now (values .entry)) (now (pool .entry))) ⌝ }
 {
-    let n = super::barred(config, s, k, subs, heads, room, t);
+    let n = entry::barred(config, s, k, subs, heads, room, t);
     if n != DONE {
         return Ticked {
             state: s,

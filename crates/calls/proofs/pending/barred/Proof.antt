@@ -1,13 +1,12 @@
 use denote.Ref.{now}
 use Rattle.state.specs.View.{stateOf}
-use Rattle.calls.proofs.Gate.{ends-barred, ends-through}
-use Rattle.calls.proofs.Ended.{pending-so}
+use Rattle.calls.proofs.Ended.{ends-barred, ends-through, pending-so}
 use borrow.Author.Needs.{needs}
 use Rattle.calls.proofs.pending.barred.Statement.{statement}
 use Rattle.calls.proofs.pending.barred.Tie as tie
 use Rattle.calls.proofs.pending.barred.Reads as reads
 use Rattle.calls.proofs.pending.barred.Lts as lts
-use Rattle.calls.proofs.barred.Reads as barred-reads
+use Rattle.entry.proofs.barred.Reads as barred-reads
 
 -- src/pending.rt:41:9
 barred-requires : tie.Need-barred-requires

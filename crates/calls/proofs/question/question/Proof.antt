@@ -6,9 +6,9 @@ use Rattle.calls.proofs.question.question.Tie as tie
 use Rattle.calls.proofs.question.question.Reads as reads
 use Rattle.calls.proofs.question.question.Lts as lts
 use Rattle.asking.proofs.asked.Reads as asked-reads
-use Rattle.calls.proofs.addressed.Reads as addressed-reads
-use Rattle.calls.proofs.barred.Reads as barred-reads
-use Rattle.calls.proofs.misfits.Reads as misfits-reads
+use Rattle.entry.proofs.addressed.Reads as addressed-reads
+use Rattle.entry.proofs.barred.Reads as barred-reads
+use Rattle.entry.proofs.misfits.Reads as misfits-reads
 use Rattle.calls.proofs.question.nothing.Reads as nothing-reads
 use Rattle.uds.proofs.frame.payload.Reads as payload-reads
 use Rattle.uds.proofs.frame.sid.Reads as sid-reads

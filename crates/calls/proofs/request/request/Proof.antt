@@ -6,9 +6,9 @@ use Rattle.calls.proofs.request.request.Statement.{statement}
 use Rattle.calls.proofs.request.request.Tie as tie
 use Rattle.calls.proofs.request.request.Reads as reads
 use Rattle.calls.proofs.request.request.Lts as lts
-use Rattle.calls.proofs.addressed.Reads as addressed-reads
-use Rattle.calls.proofs.barred.Reads as barred-reads
-use Rattle.calls.proofs.misfits.Reads as misfits-reads
+use Rattle.entry.proofs.addressed.Reads as addressed-reads
+use Rattle.entry.proofs.barred.Reads as barred-reads
+use Rattle.entry.proofs.misfits.Reads as misfits-reads
 use Rattle.calls.proofs.request.heard.Reads as heard-reads
 use Rattle.calls.proofs.request.reply_to.Reads as reply-to-reads
 use Rattle.calls.proofs.request.unasked.Reads as unasked-reads

@@ -5,7 +5,7 @@ use Rattle.calls.proofs.tick.tick.Statement.{statement}
 use Rattle.calls.proofs.tick.tick.Tie as tie
 use Rattle.calls.proofs.tick.tick.Reads as reads
 use Rattle.calls.proofs.tick.tick.Lts as lts
-use Rattle.calls.proofs.barred.Reads as barred-reads
+use Rattle.entry.proofs.barred.Reads as barred-reads
 use Rattle.ticking.proofs.refreshed.Reads as refreshed-reads
 use Rattle.ticking.proofs.s3.Reads as s3-reads
 use Rattle.ticking.proofs.send_due.Reads as send-due-reads

@@ -1,10 +1,10 @@
 use mathlib.Core.Path.{sym, _∙_}
-use Rattle.calls.proofs.Asked.{to-physical, to-functional, to-another}
+use Rattle.entry.proofs.Frames.{to-physical, to-functional, to-another}
 use borrow.Author.Needs.{needs}
-use Rattle.calls.proofs.addressed.Statement.{statement}
-use Rattle.calls.proofs.addressed.Tie as tie
-use Rattle.calls.proofs.addressed.Reads as reads
-use Rattle.calls.proofs.addressed.Lts as lts
+use Rattle.entry.proofs.addressed.Statement.{statement}
+use Rattle.entry.proofs.addressed.Tie as tie
+use Rattle.entry.proofs.addressed.Reads as reads
+use Rattle.entry.proofs.addressed.Lts as lts
 use Rattle.config.proofs.functional.Reads as functional-reads
 use Rattle.config.proofs.physical.Reads as physical-reads
 

@@ -1,11 +1,11 @@
 use denote.Ref.{now}
 use Rattle.state.specs.View.{stateOf}
-use Rattle.calls.proofs.Gate.{invalid, late, in-time}
+use Rattle.entry.proofs.Gate.{invalid, late, in-time}
 use borrow.Author.Needs.{needs}
-use Rattle.calls.proofs.barred.Statement.{statement}
-use Rattle.calls.proofs.barred.Tie as tie
-use Rattle.calls.proofs.barred.Reads as reads
-use Rattle.calls.proofs.barred.Lts as lts
+use Rattle.entry.proofs.barred.Statement.{statement}
+use Rattle.entry.proofs.barred.Tie as tie
+use Rattle.entry.proofs.barred.Reads as reads
+use Rattle.entry.proofs.barred.Lts as lts
 use Rattle.state.proofs.valid.is_valid.Reads as is-valid-reads
 
 -- src/lib.rt:49:9

@@ -1,10 +1,10 @@
 use denote.Ref.{now}
-use Rattle.calls.proofs.Asked.{empty, by-length}
+use Rattle.entry.proofs.Frames.{empty, by-length}
 use borrow.Author.Needs.{needs}
-use Rattle.calls.proofs.misfits.Statement.{statement}
-use Rattle.calls.proofs.misfits.Tie as tie
-use Rattle.calls.proofs.misfits.Reads as reads
-use Rattle.calls.proofs.misfits.Lts as lts
+use Rattle.entry.proofs.misfits.Statement.{statement}
+use Rattle.entry.proofs.misfits.Tie as tie
+use Rattle.entry.proofs.misfits.Reads as reads
+use Rattle.entry.proofs.misfits.Lts as lts
 
 -- src/request.rt:69:9
 returns : tie.Need-returns
