@@ -1,9 +1,9 @@
 //! A call, what it is made on, and what must be seen after it: plain words, from which either server is made ready.
 
-use crate::state::held::{Held, State};
+use crate::state::held::Held;
 
 /// When every call is made.
-pub const T: u64 = 5000;
+pub const T: u64 = 10_000;
 
 /// Room for the longest records of sixteen frames.
 pub const LENT: usize = 16 * (8 + 256);
@@ -14,6 +14,10 @@ pub type Frame = (u32, Vec<u8>);
 #[derive(Clone, Copy)]
 pub enum Kind {
     Request,
+    Question,
+    Tick,
+    Complete,
+    Fail,
     Drain,
 }
 
@@ -28,31 +32,56 @@ pub struct Call {
     pub src: u32,
     pub dst: u32,
     pub frame: Vec<u8>,
-    /// The outcome of the act that a request may ask: an error, or bytes.
+    /// The outcome of the act that a request may ask, or the answer of one that is pending: an error, or bytes.
     pub err: u8,
     pub given: Vec<u8>,
     pub after: After,
 }
 
+/// A service byte, 0 for none, and the parts of the frame that are its arguments, by start and length.
+#[derive(Clone, Debug, Default, PartialEq)]
+pub struct Act {
+    pub number: u8,
+    pub parts: Vec<(usize, usize)>,
+}
+
 #[derive(Clone, Debug, PartialEq)]
 pub struct After {
     pub result: u8,
+    /// The error byte that comes with result 8.
+    pub err: u8,
     pub session: u8,
     pub level: u8,
-    pub subscriptions: usize,
+    /// How many bytes of a seed await their key.
+    pub seed: usize,
+    /// Whom to answer, for which service, and when 78 is due again.
+    pub pending: Option<(u32, u8, u64)>,
+    /// Identifier, client, interval, next.
+    pub subscriptions: Vec<[u64; 4]>,
     pub waiting: Vec<Frame>,
     pub drained: Vec<Frame>,
+    /// What a question answers; none after all other calls.
+    pub act: Act,
 }
 
 impl After {
-    pub fn of(result: u8, state: &State, waiting: Vec<Frame>, drained: Vec<Frame>) -> Self {
+    /// All that is held, with result 0.
+    pub fn of(held: &Held) -> Self {
+        let (session, pending) = (held.state.session, held.state.pending);
+        let rows = held.subscriptions.as_chunks().0;
         Self {
-            result,
-            session: state.session.session_type,
-            level: state.session.level,
-            subscriptions: usize::from(state.subscriptions),
-            waiting,
-            drained,
+            result: 0,
+            err: 0,
+            session: session.session_type,
+            level: session.level,
+            seed: held.security[0] as usize,
+            pending: pending
+                .on
+                .then_some((pending.dst, pending.sid, pending.deadline)),
+            subscriptions: rows[..usize::from(held.state.subscriptions)].to_vec(),
+            waiting: held.queue().frames(),
+            drained: vec![],
+            act: Act::default(),
         }
     }
 }
@@ -66,8 +95,8 @@ pub trait Side: Sized {
     /// What the last call changed is as it was before it. Not measured.
     fn ready(&mut self);
 
-    /// What is measured: the function that makes a call of this kind.
-    fn run(kind: Kind) -> fn(&mut Self, &mut [u8]);
+    /// What is measured: the function that makes a call of this kind, where the server has one.
+    fn run(kind: Kind) -> Option<fn(&mut Self, &mut [u8])>;
 
     fn after(&self, out: &[u8]) -> After;
 }

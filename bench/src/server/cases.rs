@@ -1,6 +1,6 @@
 //! What is measured: each call under the fixed configuration and under a full one, where what it looks for stands in the last row of its table.
 
-use super::call::{After, Call, Frame, Kind};
+use super::call::{Act, After, Call, Frame, Kind, T};
 use crate::state::config;
 use crate::state::held::{Held, Pending};
 
@@ -16,7 +16,7 @@ const SEED: [u8; 31] = [0xC3; 31];
 /// The fixed configuration; the last request came a second before.
 fn fixed() -> Held {
     let mut held = Held::fresh(config::fixed());
-    held.state.session.last_rx = 4000;
+    held.state.session.last_rx = T - 1000;
     held
 }
 
@@ -45,13 +45,31 @@ impl Held {
         self
     }
 
-    fn pending(mut self) -> Self {
+    fn pending(mut self, deadline: u64) -> Self {
         self.state.pending = Pending {
-            deadline: 6000,
+            deadline,
             dst: SRC,
             sid: 0x31,
             on: true,
         };
+        self
+    }
+
+    /// In another session, with no request for so long.
+    fn silent(mut self, session: u8, ms: u64) -> Self {
+        self.state.session.session_type = session;
+        self.state.session.last_rx = T - ms;
+        self
+    }
+
+    /// So many clients get an identifier every 100 ms, next at this time.
+    fn subscribed(mut self, clients: u8, id: [u8; 2], next: u64) -> Self {
+        self.state.subscriptions = clients;
+        let id = u64::from(u16::from_be_bytes(id));
+        let rows = self.subscriptions.chunks_exact_mut(4).zip(u64::from(SRC)..);
+        for (row, client) in rows.take(usize::from(clients)) {
+            row.copy_from_slice(&[id, client, 100, next]);
+        }
         self
     }
 
@@ -76,7 +94,8 @@ impl Held {
 }
 
 fn request(name: &str, held: Held, frame: &[u8], replies: &[&[u8]]) -> Call {
-    let waiting = replies.iter().map(|reply| (SRC, reply.to_vec())).collect();
+    let mut after = After::of(&held);
+    after.waiting = replies.iter().map(|reply| (SRC, reply.to_vec())).collect();
     let ids = held.config[278..]
         .chunks_exact(21)
         .take(held.config[4] as usize);
@@ -90,9 +109,47 @@ fn request(name: &str, held: Held, frame: &[u8], replies: &[&[u8]]) -> Call {
         frame: frame.to_vec(),
         err: 0,
         given: vec![],
-        after: After::of(0, &held.state, waiting, vec![]),
+        after,
         held,
     }
+}
+
+fn question(name: &str, held: Held, frame: &[u8], number: u8, parts: &[(usize, usize)]) -> Call {
+    let mut call = request(name, held, frame, &[]);
+    call.kind = Kind::Question;
+    let parts = parts.to_vec();
+    call.after.act = Act { number, parts };
+    call
+}
+
+fn tick(name: &str, held: Held, sent: &[&[u8]]) -> Call {
+    let mut call = request(name, held, &[], sent);
+    call.kind = Kind::Tick;
+    call
+}
+
+/// Every client gets the identifier's value, and is due again an interval later.
+fn sent(name: &str, clients: u8, held: Held, id: [u8; 2]) -> Call {
+    let mut call = tick(name, held.subscribed(clients, id, T - 30), &[]);
+    let frame = [&id[1..], &VALUE].concat();
+    for row in &mut call.after.subscriptions {
+        row[3] = T + 100;
+        call.after.waiting.push((row[1] as u32, frame.clone()));
+    }
+    call
+}
+
+/// What `complete` (no code) or `fail` leaves of a pending request.
+fn ended(name: &str, held: Held, code: Option<u8>, payload: &[u8]) -> Call {
+    let reply = match code {
+        Some(code) => vec![0x7F, 0x31, code],
+        None => [&[0x71], payload].concat(),
+    };
+    let mut call = request(name, held.pending(T + 1000), &[], &[&reply]).given(payload);
+    call.kind = code.map_or(Kind::Complete, |_| Kind::Fail);
+    call.err = code.unwrap_or(0);
+    call.after.pending = None;
+    call
 }
 
 fn drain(name: &str, held: Held) -> Call {
@@ -160,16 +217,28 @@ const FULL: Under = Under {
 fn calls(u: &Under) -> Vec<Call> {
     let (held, s, l, [a, b]) = (u.held, u.session, u.level, u.id);
     let seeded = held(0x27).seeded(u.seed.len(), l);
+    let row = [0xF200 + u64::from(u.periodic), u64::from(SRC), 50, T + 50];
     let mut calls = vec![
         request("3E 00", held(0x3E), &[0x3E, 0], &[&[0x7E, 0]]),
         request("10, opened", held(0x10), &[0x10, s], &[&[0x50, s, 0, 50, 1, 0xF4]]).then(|after| after.session = s),
         request("22, 17 bytes", held(0x22).at_level(l), &[0x22, a, b], &[&[&[0x62, a, b], &VALUE[..]].concat()]),
         request("14, not known", held(0x22), &[0x14, 0xFF, 0xFF, 0xFF], &[&[0x7F, 0x14, 0x11]]),
-        request("3E 00, busy", held(0x3E).pending(), &[0x3E, 0], &[&[0x7F, 0x3E, 0x21]]).then(|after| after.waiting[0].0 = PHYSICAL),
+        request("3E 00, busy", held(0x3E).pending(T + 1000), &[0x3E, 0], &[&[0x7F, 0x3E, 0x21]]).then(|after| after.waiting[0].0 = PHYSICAL),
         request("3E 00, to another", held(0x3E), &[0x3E, 0], &[]).to(99),
-        request("27, seed", held(0x27), &[0x27, l], &[&[&[0x67, l], u.seed].concat()]).given(u.seed),
-        request("27, key", seeded, &[&[0x27, l + 1], u.key].concat(), &[&[0x67, l + 1]]).then(|after| after.level = l),
-        request("2A 03, one", held(0x2A).at_level(l), &[0x2A, 3, u.periodic], &[&[0x6A, 3]]).then(|after| after.subscriptions = 1),
+        request("27, seed", held(0x27), &[0x27, l], &[&[&[0x67, l], u.seed].concat()]).given(u.seed).then(|after| after.seed = u.seed.len()),
+        request("27, key", seeded.clone(), &[&[0x27, l + 1], u.key].concat(), &[&[0x67, l + 1]]).then(|after| (after.level, after.seed) = (l, 0)),
+        request("2A 03, one", held(0x2A).at_level(l), &[0x2A, 3, u.periodic], &[&[0x6A, 3]]).then(|after| after.subscriptions = vec![row]),
+        question("question of 31", held(0x31), &[0x31, 1, 2, 3, 4, 5], 0x31, &[(1, 1), (2, 2), (4, 2)]),
+        question("question of 22", held(0x22).at_level(l), &[0x22, a, b], 0, &[]),
+        tick("tick, no subscription", held(0x3E), &[]),
+        tick("tick, none of 16 due", held(0x3E).subscribed(16, u.id, T + 1), &[]),
+        sent("tick, 1 due", 1, held(0x3E), u.id),
+        sent("tick, 16 due", 16, held(0x3E), u.id),
+        tick("tick, S3 ends", seeded.at_level(l).silent(s, 5001), &[]).then(|after| (after.session, after.level, after.seed) = (1, 0, 0)),
+        tick("tick, at the deadline", held(0x3E).pending(T), &[&[0x7F, 0x31, 0x78]]).then(|after| after.pending = Some((SRC, 0x31, T + 5000))),
+        ended("complete, 4 bytes", held(0x31), None, &[0x5A; 4]),
+        ended("complete, 255 bytes", held(0x31), None, &[0x5A; 255]),
+        ended("fail", held(0x31), Some(0x22), &[]),
         drain("drain of 1", held(0x3E).waiting(1)),
         drain("drain of 16", held(0x3E).waiting(16)),
     ];

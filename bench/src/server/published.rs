@@ -9,7 +9,7 @@ use ace_server::security_provider::{SecurityError, SecurityProvider};
 use ace_server::server::access::{self, Meter, MeterConfig, Snapshot};
 use ace_server::server::{ServerError, UdsServer};
 
-use super::call::{After, Call, Kind, Side, T, records};
+use super::call::{Act, After, Call, Kind, Side, T, records};
 use crate::plain::write_record;
 use crate::state::held::{Config, Held};
 
@@ -143,6 +143,10 @@ fn number(done: Done) -> u8 {
     }
 }
 
+fn at() -> Instant {
+    Instant::from_micros(T * 1000)
+}
+
 // Valgrind counts what these take, by their names.
 #[inline(never)]
 #[unsafe(no_mangle)]
@@ -152,7 +156,27 @@ extern "C" fn bench_published_request(p: &mut Published) {
         dst: NodeAddress(p.call.dst),
         data: &p.call.frame,
     };
-    p.result = number(p.server.handle(&frame, Instant::from_micros(T * 1000)));
+    p.result = number(p.server.handle(&frame, at()));
+}
+
+#[inline(never)]
+#[unsafe(no_mangle)]
+extern "C" fn bench_published_tick(p: &mut Published) {
+    p.result = number(p.server.tick(at()));
+}
+
+#[inline(never)]
+#[unsafe(no_mangle)]
+extern "C" fn bench_published_complete(p: &mut Published) {
+    p.result = number(p.server.complete_pending(&p.call.given, at()));
+}
+
+#[inline(never)]
+#[unsafe(no_mangle)]
+extern "C" fn bench_published_fail(p: &mut Published) {
+    // 22, the code of every failing call.
+    let code = BuiltinNrc::conditions_not_correct();
+    p.result = number(p.server.fail_pending(code, at()));
 }
 
 #[inline(never)]
@@ -194,22 +218,42 @@ impl Side for Published {
         access::restore(&mut self.server, &self.before);
     }
 
-    fn run(kind: Kind) -> fn(&mut Self, &mut [u8]) {
-        match kind {
+    fn run(kind: Kind) -> Option<fn(&mut Self, &mut [u8])> {
+        Some(match kind {
             Kind::Request => |p, _| bench_published_request(p),
+            Kind::Question => return None,
+            Kind::Tick => |p, _| bench_published_tick(p),
+            Kind::Complete => |p, _| bench_published_complete(p),
+            Kind::Fail => |p, _| bench_published_fail(p),
             Kind::Drain => |p, out| bench_published_drain(p, out.as_mut_ptr(), out.len()),
-        }
+        })
     }
 
     fn after(&self, out: &[u8]) -> After {
         let s = access::snapshot(&self.server);
         After {
             result: self.result,
+            // No call here meets 8.
+            err: 0,
             session: s.session,
             level: s.level,
-            subscriptions: s.periodic.len(),
+            seed: s.seed.len(),
+            pending: s.pending.map(|(dst, sid, at)| (dst, sid, at / 1000)),
+            subscriptions: s
+                .periodic
+                .iter()
+                .map(|(id, client, interval, next)| {
+                    [
+                        u64::from(*id),
+                        u64::from(*client),
+                        interval / 1000,
+                        next / 1000,
+                    ]
+                })
+                .collect(),
             waiting: s.queue,
             drained: records(out, self.drained),
+            act: Act::default(),
         }
     }
 }
