@@ -14,7 +14,6 @@ use queue::Room;
 use queue::draft::Drafted;
 use queue::reply::Pushed;
 use security::Security;
-use state::PendingRequest;
 use state::State;
 use state::apply::Answer;
 use uds::clock::Instant;
@@ -53,10 +52,11 @@ fn ended(s: State, frames: u8) -> State
     ensures { λ r. ⌜ Ends s frames r ⌝ }
 {
     let session = s.session;
-    let none = PendingRequest::new();
+    let mut pending = s.pending;
+    pending.on = false;
     State {
         session,
-        pending: none,
+        pending,
         functional: s.functional,
         subscriptions: s.subscriptions,
         frames,
