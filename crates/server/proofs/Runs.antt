@@ -9,6 +9,7 @@ use Rattle.model.specs.State as Model
 use Rattle.model.specs.Service.{noAct}
 use Rattle.model.specs.History.{Call, requests, questions, ticks, completes, fails, drains, Shown, Done, doneStep, doneAnswer, doneAsked, doneTick, doneDrain, call, run, shows}
 use Rattle.uds.specs.Values.{tableOf}
+use Rattle.uds.specs.declared.clock.Instant.{Instant}
 use Rattle.state.specs.View.{stateOf}
 use Rattle.state.specs.declared.State.{State}
 use Rattle.state.specs.declared.apply.Answer.{Answer}
@@ -60,36 +61,50 @@ beside config s k subs heads room = record { config = config; state = s; securit
 abbrev pub shown : ℕ → Shown
 shown n = record { result = n; err = 0; act = noAct; count = 0; buffer = [] }
 
--- one call that meets the promise of its function, by value or lent
+-- one call that meets the promise of its function: its arguments, what it answers (`r`), and what is left of those that were lent (`e`, in their order)
 pub data Does : Held → Call → Shown → Held → Type 0 where
-  requested : (κs : _) (a : _) (r : ServerAnswered) (e : _) → request.Post κs a r e → Does (within (a .0)) (requests (requestOf (a .1 .0 .0) (a .1 .1 .0) (a .1 .1 .1 .0) (now (a .1 .1 .1 .1 .0)) (a .1 .1 .1 .1 .1 .0) (now (a .1 .1 .1 .1 .1 .1 .0)) (now (a .1 .1 .1 .1 .1 .1 .1 .0)) (now (a .1 .1 .1 .1 .1 .1 .1 .1 .0)))) (record { result = r .result; err = 0; act = actOf (r .act); count = 0; buffer = [] }) (within (r .server))
-  questioned : (κs : _) (a : _) (r : Asked) (e : _) → question.Post κs a r e → Does (within (a .0)) (questions (inboundOf (a .1 .0 .0) (a .1 .1 .0) (a .1 .1 .1 .0) (now (a .1 .1 .1 .1 .0)))) (record { result = r .result; err = 0; act = actOf (r .act); count = 0; buffer = [] }) (within (a .0))
-  ticked : (κs : _) (a : _) (r : ServerTicked) (e : _) → tick.Post κs a r e → Does (within (a .0)) (ticks (a .1 .0 .0) (tableOf (now (a .1 .1 .0)) (now (a .1 .1 .1 .0)))) (record { result = r .result; err = r .err; act = noAct; count = 0; buffer = [] }) (within (r .server))
-  completed : (κs : _) (a : _) (r : ServerAnswer) (e : _) → complete.Post κs a r e → Does (within (a .0)) (completes (a .1 .0 .0) (now (a .1 .1 .0))) (shown (r .result)) (within (r .server))
-  failed : (κs : _) (a : _) (r : ServerAnswer) (e : _) → fail.Post κs a r e → Does (within (a .0)) (fails (a .1 .0 .0) (a .1 .1 .0)) (shown (r .result)) (within (r .server))
-  drained : (κs : _) (a : _) (r : ServerDrained) (e : _) → drain.Post κs a r e → Does (within (a .0)) (drains (now (a .1 .0))) (record { result = r .result; err = 0; act = noAct; count = r .frames; buffer = now (e .1 .0) }) (within (r .server))
-  lent-requested : (κs : _) (a : _) (r : Answered) (e : _) → lent-request.Post κs a r e → Does (beside (now (a .0)) (a .1 .0) (now (a .1 .1 .0)) (now (a .1 .1 .1 .0)) (now (a .1 .1 .1 .1 .0)) (now (a .1 .1 .1 .1 .1 .0))) (requests (requestOf (a .1 .1 .1 .1 .1 .1 .0 .0) (a .1 .1 .1 .1 .1 .1 .1 .0) (a .1 .1 .1 .1 .1 .1 .1 .1 .0) (now (a .1 .1 .1 .1 .1 .1 .1 .1 .1 .0)) (a .1 .1 .1 .1 .1 .1 .1 .1 .1 .1 .0) (now (a .1 .1 .1 .1 .1 .1 .1 .1 .1 .1 .1 .0)) (now (a .1 .1 .1 .1 .1 .1 .1 .1 .1 .1 .1 .1 .0)) (now (a .1 .1 .1 .1 .1 .1 .1 .1 .1 .1 .1 .1 .1 .0)))) (record { result = r .result; err = 0; act = actOf (r .act); count = 0; buffer = [] }) (beside (now (a .0)) (r .state) (now (e .1 .1 .0)) (now (e .1 .1 .1 .0)) (now (e .1 .1 .1 .1 .0)) (now (e .1 .1 .1 .1 .1 .0)))
-  lent-questioned : (κs : _) (a : _) (r : Asked) (e : _) → lent-question.Post κs a r e → Does (beside (now (a .0)) (a .1 .0) (now (a .1 .1 .0)) (now (a .1 .1 .1 .0)) (now (a .1 .1 .1 .1 .0)) (now (a .1 .1 .1 .1 .1 .0))) (questions (inboundOf (a .1 .1 .1 .1 .1 .1 .0 .0) (a .1 .1 .1 .1 .1 .1 .1 .0) (a .1 .1 .1 .1 .1 .1 .1 .1 .0) (now (a .1 .1 .1 .1 .1 .1 .1 .1 .1 .0)))) (record { result = r .result; err = 0; act = actOf (r .act); count = 0; buffer = [] }) (beside (now (a .0)) (a .1 .0) (now (a .1 .1 .0)) (now (a .1 .1 .1 .0)) (now (a .1 .1 .1 .1 .0)) (now (a .1 .1 .1 .1 .1 .0)))
-  lent-ticked : (κs : _) (a : _) (r : Ticked) (e : _) → lent-tick.Post κs a r e → Does (beside (now (a .0)) (a .1 .0) (now (a .1 .1 .0)) (now (a .1 .1 .1 .0)) (now (a .1 .1 .1 .1 .0)) (now (a .1 .1 .1 .1 .1 .0))) (ticks (a .1 .1 .1 .1 .1 .1 .0 .0) (tableOf (now (a .1 .1 .1 .1 .1 .1 .1 .0)) (now (a .1 .1 .1 .1 .1 .1 .1 .1 .0)))) (record { result = r .result; err = r .err; act = noAct; count = 0; buffer = [] }) (beside (now (a .0)) (r .state) (now (e .1 .1 .0)) (now (e .1 .1 .1 .0)) (now (e .1 .1 .1 .1 .0)) (now (e .1 .1 .1 .1 .1 .0)))
-  lent-completed : (κs : _) (a : _) (r : Answer) (e : _) → lent-complete.Post κs a r e → Does (beside (now (a .0)) (a .1 .0) (now (a .1 .1 .0)) (now (a .1 .1 .1 .0)) (now (a .1 .1 .1 .1 .0)) (now (a .1 .1 .1 .1 .1 .0))) (completes (a .1 .1 .1 .1 .1 .1 .0 .0) (now (a .1 .1 .1 .1 .1 .1 .1 .0))) (shown (r .result)) (beside (now (a .0)) (r .state) (now (a .1 .1 .0)) (now (a .1 .1 .1 .0)) (now (e .1 .1 .1 .1 .0)) (now (e .1 .1 .1 .1 .1 .0)))
-  lent-failed : (κs : _) (a : _) (r : Answer) (e : _) → lent-fail.Post κs a r e → Does (beside (now (a .0)) (a .1 .0) (now (a .1 .1 .0)) (now (a .1 .1 .1 .0)) (now (a .1 .1 .1 .1 .0)) (now (a .1 .1 .1 .1 .1 .0))) (fails (a .1 .1 .1 .1 .1 .1 .0 .0) (a .1 .1 .1 .1 .1 .1 .1 .0)) (shown (r .result)) (beside (now (a .0)) (r .state) (now (a .1 .1 .0)) (now (a .1 .1 .1 .0)) (now (e .1 .1 .1 .1 .0)) (now (e .1 .1 .1 .1 .1 .0)))
-  lent-drained : (κs : _) (a : _) (r : Drained) (e : _) → lent-drain.Post κs a r e → Does (beside (now (a .0)) (a .1 .0) (now (a .1 .1 .0)) (now (a .1 .1 .1 .0)) (now (a .1 .1 .1 .1 .0)) (now (a .1 .1 .1 .1 .1 .0))) (drains (now (a .1 .1 .1 .1 .1 .1 .0))) (record { result = r .result; err = 0; act = noAct; count = r .frames; buffer = now (e .1 .1 .1 .1 .1 .1 .0) }) (beside (now (a .0)) (r .state) (now (a .1 .1 .0)) (now (a .1 .1 .1 .0)) (now (a .1 .1 .1 .1 .0)) (now (a .1 .1 .1 .1 .1 .0)))
+  -- by value
+  requested : (κs : _) (v : Server) (t : Instant) (src dst : ℕ) (frame : _) (err : ℕ) (given values pool : _) (r : ServerAnswered) (e : _) → request.Post κs (v, (t, (src, (dst, (frame, (err, (given, (values, (pool, tt))))))))) r e
+      → Does (within v) (requests (requestOf (t .0) src dst (now frame) err (now given) (now values) (now pool))) (record { result = r .result; err = 0; act = actOf (r .act); count = 0; buffer = [] }) (within (r .server))
+  questioned : (κs : _) (v : Server) (t : Instant) (src dst : ℕ) (frame : _) (r : Asked) (e : _) → question.Post κs (v, (t, (src, (dst, (frame, tt))))) r e
+      → Does (within v) (questions (inboundOf (t .0) src dst (now frame))) (record { result = r .result; err = 0; act = actOf (r .act); count = 0; buffer = [] }) (within v)
+  ticked : (κs : _) (v : Server) (t : Instant) (values pool : _) (r : ServerTicked) (e : _) → tick.Post κs (v, (t, (values, (pool, tt)))) r e
+      → Does (within v) (ticks (t .0) (tableOf (now values) (now pool))) (record { result = r .result; err = r .err; act = noAct; count = 0; buffer = [] }) (within (r .server))
+  completed : (κs : _) (v : Server) (t : Instant) (payload : _) (r : ServerAnswer) (e : _) → complete.Post κs (v, (t, (payload, tt))) r e
+      → Does (within v) (completes (t .0) (now payload)) (shown (r .result)) (within (r .server))
+  failed : (κs : _) (v : Server) (t : Instant) (code : ℕ) (r : ServerAnswer) (e : _) → fail.Post κs (v, (t, (code, tt))) r e
+      → Does (within v) (fails (t .0) code) (shown (r .result)) (within (r .server))
+  drained : (κs : _) (v : Server) (out : _) (r : ServerDrained) (e : _) → drain.Post κs (v, (out, tt)) r e
+      → Does (within v) (drains (now out)) (record { result = r .result; err = 0; act = noAct; count = r .frames; buffer = now (e .1 .0) }) (within (r .server))
+  -- lent
+  lent-requested : (κs : _) (config : _) (s : State) (k subs heads room : _) (t : Instant) (src dst : ℕ) (frame : _) (err : ℕ) (given values pool : _) (r : Answered) (e : _) → lent-request.Post κs (config, (s, (k, (subs, (heads, (room, (t, (src, (dst, (frame, (err, (given, (values, (pool, tt)))))))))))))) r e
+      → Does (beside (now config) s (now k) (now subs) (now heads) (now room)) (requests (requestOf (t .0) src dst (now frame) err (now given) (now values) (now pool))) (record { result = r .result; err = 0; act = actOf (r .act); count = 0; buffer = [] }) (beside (now config) (r .state) (now (e .1 .1 .0)) (now (e .1 .1 .1 .0)) (now (e .1 .1 .1 .1 .0)) (now (e .1 .1 .1 .1 .1 .0)))
+  lent-questioned : (κs : _) (config : _) (s : State) (k subs heads room : _) (t : Instant) (src dst : ℕ) (frame : _) (r : Asked) (e : _) → lent-question.Post κs (config, (s, (k, (subs, (heads, (room, (t, (src, (dst, (frame, tt)))))))))) r e
+      → Does (beside (now config) s (now k) (now subs) (now heads) (now room)) (questions (inboundOf (t .0) src dst (now frame))) (record { result = r .result; err = 0; act = actOf (r .act); count = 0; buffer = [] }) (beside (now config) s (now k) (now subs) (now heads) (now room))
+  lent-ticked : (κs : _) (config : _) (s : State) (k subs heads room : _) (t : Instant) (values pool : _) (r : Ticked) (e : _) → lent-tick.Post κs (config, (s, (k, (subs, (heads, (room, (t, (values, (pool, tt))))))))) r e
+      → Does (beside (now config) s (now k) (now subs) (now heads) (now room)) (ticks (t .0) (tableOf (now values) (now pool))) (record { result = r .result; err = r .err; act = noAct; count = 0; buffer = [] }) (beside (now config) (r .state) (now (e .1 .1 .0)) (now (e .1 .1 .1 .0)) (now (e .1 .1 .1 .1 .0)) (now (e .1 .1 .1 .1 .1 .0)))
+  lent-completed : (κs : _) (config : _) (s : State) (k subs heads room : _) (t : Instant) (payload : _) (r : Answer) (e : _) → lent-complete.Post κs (config, (s, (k, (subs, (heads, (room, (t, (payload, tt)))))))) r e
+      → Does (beside (now config) s (now k) (now subs) (now heads) (now room)) (completes (t .0) (now payload)) (shown (r .result)) (beside (now config) (r .state) (now k) (now subs) (now (e .1 .1 .1 .1 .0)) (now (e .1 .1 .1 .1 .1 .0)))
+  lent-failed : (κs : _) (config : _) (s : State) (k subs heads room : _) (t : Instant) (code : ℕ) (r : Answer) (e : _) → lent-fail.Post κs (config, (s, (k, (subs, (heads, (room, (t, (code, tt)))))))) r e
+      → Does (beside (now config) s (now k) (now subs) (now heads) (now room)) (fails (t .0) code) (shown (r .result)) (beside (now config) (r .state) (now k) (now subs) (now (e .1 .1 .1 .1 .0)) (now (e .1 .1 .1 .1 .1 .0)))
+  lent-drained : (κs : _) (config : _) (s : State) (k subs heads room : _) (out : _) (r : Drained) (e : _) → lent-drain.Post κs (config, (s, (k, (subs, (heads, (room, (out, tt))))))) r e
+      → Does (beside (now config) s (now k) (now subs) (now heads) (now room)) (drains (now out)) (record { result = r .result; err = 0; act = noAct; count = r .frames; buffer = now (e .1 .1 .1 .1 .1 .1 .0) }) (beside (now config) (r .state) (now k) (now subs) (now heads) (now room))
 
 -- what a call of the code shows and leaves is what the definition's call says
 pub does-so : {m m' : Held} {c : Call} {x : Shown} → Does m c x m' → call maxFrame (heldOf m) c ≡ record { shown = x; state = heldOf m' }
 unfolding call
-does-so (requested κs a r e p) = ap doneAnswer (sym p)
-does-so (questioned κs a r e p) = ap (doneAsked (heldOf (within (a .0)))) (sym p)
-does-so (ticked κs a r e p) = ap doneTick (sym p)
-does-so (completed κs a r e p) = ap doneStep (sym p)
-does-so (failed κs a r e p) = ap doneStep (sym p)
-does-so (drained κs a r e p) = ap doneDrain (sym p)
-does-so (lent-requested κs a r e p) = ap doneAnswer (sym p)
-does-so (lent-questioned κs a r e p) = ap (doneAsked _) (sym p)
-does-so (lent-ticked κs a r e p) = ap doneTick (sym p)
-does-so (lent-completed κs a r e p) = ap doneStep (sym p)
-does-so (lent-failed κs a r e p) = ap doneStep (sym p)
-does-so (lent-drained κs a r e p) = ap doneDrain (sym p)
+does-so (requested κs v t src dst frame err given values pool r e p) = ap doneAnswer (sym p)
+does-so (questioned κs v t src dst frame r e p) = ap (doneAsked _) (sym p)
+does-so (ticked κs v t values pool r e p) = ap doneTick (sym p)
+does-so (completed κs v t payload r e p) = ap doneStep (sym p)
+does-so (failed κs v t code r e p) = ap doneStep (sym p)
+does-so (drained κs v out r e p) = ap doneDrain (sym p)
+does-so (lent-requested κs config s k subs heads room t src dst frame err given values pool r e p) = ap doneAnswer (sym p)
+does-so (lent-questioned κs config s k subs heads room t src dst frame r e p) = ap (doneAsked _) (sym p)
+does-so (lent-ticked κs config s k subs heads room t values pool r e p) = ap doneTick (sym p)
+does-so (lent-completed κs config s k subs heads room t payload r e p) = ap doneStep (sym p)
+does-so (lent-failed κs config s k subs heads room t code r e p) = ap doneStep (sym p)
+does-so (lent-drained κs config s k subs heads room out r e p) = ap doneDrain (sym p)
 
 -- so whatever is proved of every call of the definition holds of every call of the code: when each result number comes, and what it leaves
 pub so-the-code : (P : Model.State → Call → Done → Type 0) → ((s : Model.State) (c : Call) → P s c (call maxFrame s c)) → {m m' : Held} {c : Call} {x : Shown} → Does m c x m' → P (heldOf m) c (record { shown = x; state = heldOf m' })
