@@ -28,5 +28,7 @@ pub mod Tick
 pub mod Drain
 pub mod History
 pub mod Fixed
+pub mod Text
+pub mod Trace
 pub mod Iso
 pub mod Alike
