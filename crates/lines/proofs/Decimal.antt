@@ -10,7 +10,7 @@ use native.Mathlib.Omega.{arith}
 use borrow.Author.Tests.{lt-ltb, le-ltb}
 use lib.Dec.{ltb}
 use Rattle.io.specs.Digits.{glyph, digits, Fewest}
-use Rattle.lines.specs.View.{decimalIn, decimalOf}
+use Rattle.model.specs.Text.{decimalIn, decimal}
 
 ten : 0 < 10
 ten = omega arith
@@ -33,10 +33,10 @@ spelt (suc j) (suc most) n l h p =
 few : (k n : ℕ) → n < 2 ^ 64 → Fewest 10 1 n k → k ≤ 20
 few k n b f = elim (decLe k 20) [ yes l ↦ l | no l ↦ absurd (let h : 10 ^ 20 ≤ 10 ^ (k - 1) = pow-le-pow-right ten {i = 20} {j = k - 1} (omega arith) in let g : 10 ^ (k - 1) ≤ n = f .2 (omega arith) in omega arith) ]
 
-spelt-whole : (k n : ℕ) → k ≤ 20 → Fewest 10 1 n k → digits 10 k n ≡ decimalOf n
-unfolding decimalOf
+spelt-whole : (k n : ℕ) → k ≤ 20 → Fewest 10 1 n k → digits 10 k n ≡ decimal n
+unfolding decimal
 spelt-whole zero n s f = absurd (omega arith)
 spelt-whole (suc j) n s f = spelt j 20 n (omega arith) (f .1) (λ p. simp unary-clauses at (f .2 (omega arith)))
 
-pub fewest : (k n : ℕ) → n < 2 ^ 64 → Fewest 10 1 n k → digits 10 k n ≡ decimalOf n
+pub fewest : (k n : ℕ) → n < 2 ^ 64 → Fewest 10 1 n k → digits 10 k n ≡ decimal n
 fewest k n b f = spelt-whole k n (few k n b f) f

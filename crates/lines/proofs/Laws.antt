@@ -7,7 +7,8 @@ use native.Mathlib.Numerals.{add-one}
 use lib.ListN.{length, take, drop, set, getD, length-append, length-take, take-append-drop}
 use lib.Seq.{take-all, take-suc, drop-cons, take-append-le, take-suc-set}
 use borrow.Author.Tests.{eq-eqb, ne-eqb}
-use Rattle.lines.specs.View.{appended, gap, digit, hexOf}
+use Rattle.model.specs.Text.{digit, hex}
+use Rattle.lines.specs.View.{appended, gap}
 
 -- cut before and after is cut after
 pub cut-twice : (n : ℕ) (x y : List ℕ) → take n (take n x ++ y) ≡ take n (x ++ y)
@@ -56,5 +57,5 @@ pub extended : (t word : List ℕ) (i : ℕ) → i < length word → (t ++ take 
 extended t word i h = rw (append-assoc, add-one, take-suc word i 0)
 
 -- a byte's two digits, and those of the bytes behind it
-pub spelt : (high : ℕ) (bytes : List ℕ) (i a b : ℕ) → i < length bytes → a ≡ digit high (getD bytes i 0 / 16) → b ≡ digit high (getD bytes i 0 % 16) → (a ∷ b ∷ []) ++ hexOf high (drop (i + 1) bytes) ≡ hexOf high (drop i bytes)
+pub spelt : (high : ℕ) (bytes : List ℕ) (i a b : ℕ) → i < length bytes → a ≡ digit high (getD bytes i 0 / 16) → b ≡ digit high (getD bytes i 0 % 16) → (a ∷ b ∷ []) ++ hex high (drop (i + 1) bytes) ≡ hex high (drop i bytes)
 spelt high bytes i a b h p q = rw (p, q, add-one, drop-cons bytes i 0 h)

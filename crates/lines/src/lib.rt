@@ -5,8 +5,9 @@ ghost use mathlib.Core.Path.{_≡_};
 ghost use mathlib.Core.List.{[], _++_};
 ghost use Prim.Native.Nat.{_+_, _≤_, _<_};
 ghost use lib.ListN.{length, take};
-ghost use Rattle.lines.specs.View.{textOf, appended, gap, upper, lower, hexOf, decimalOf, flagOf};
-ghost use Rattle.lines.specs.View.{digit as digitOf};
+ghost use Rattle.model.specs.Text.{upper, lower, hex, decimal};
+ghost use Rattle.model.specs.Text.{digit as digitOf};
+ghost use Rattle.lines.specs.View.{textOf, appended, gap, flagOf};
 
 const UPPER: u8 = 55;
 
@@ -100,7 +101,7 @@ impl Line {
 
     // A number, decimal, as a word of its own.
     pub fn number(self, n: u64) -> Line
-        ensures { λ r. ⌜ textOf r ≡ appended (textOf self) (gap (textOf self) ++ decimalOf n) ⌝ }
+        ensures { λ r. ⌜ textOf r ≡ appended (textOf self) (gap (textOf self) ++ decimal n) ⌝ }
     {
         let mut digits = [0u8; 20];
         let k = io::decimal(n, &mut digits);
@@ -120,7 +121,7 @@ impl Line {
     // Bytes as one word, two digits each.
     fn digits(self, bytes: &[u8], high: u8) -> Line
         requires { ⌜ high ≤ lower ⌝ }
-        ensures { λ r. ⌜ textOf r ≡ appended (textOf self) (gap (textOf self) ++ hexOf high (now (bytes .entry))) ⌝ }
+        ensures { λ r. ⌜ textOf r ≡ appended (textOf self) (gap (textOf self) ++ hex high (now (bytes .entry))) ⌝ }
     {
         let mut line = self.gap();
         let mut i = 0;
@@ -134,14 +135,14 @@ impl Line {
 
     // Upper-case hex.
     pub fn hex(self, bytes: &[u8]) -> Line
-        ensures { λ r. ⌜ textOf r ≡ appended (textOf self) (gap (textOf self) ++ hexOf upper (now (bytes .entry))) ⌝ }
+        ensures { λ r. ⌜ textOf r ≡ appended (textOf self) (gap (textOf self) ++ hex upper (now (bytes .entry))) ⌝ }
     {
         self.digits(bytes, UPPER)
     }
 
     // Lower-case hex.
     pub fn lower_hex(self, bytes: &[u8]) -> Line
-        ensures { λ r. ⌜ textOf r ≡ appended (textOf self) (gap (textOf self) ++ hexOf lower (now (bytes .entry))) ⌝ }
+        ensures { λ r. ⌜ textOf r ≡ appended (textOf self) (gap (textOf self) ++ hex lower (now (bytes .entry))) ⌝ }
     {
         self.digits(bytes, LOWER)
     }

@@ -7,6 +7,7 @@ use lib.ListN.{length}
 use lib.Dec.{eqb, leb}
 use borrow.Author.Tests.{ne-eqb, le-leb}
 use Rattle.model.specs.Tests.{pick}
+use Rattle.model.specs.Text.{decimal}
 use Rattle.model.specs.Trace.{Entry, entryAt, suits, good, Held, Printed, stepped, bad, traced, trace}
 use Rattle.model.proofs.Laws.{either}
 use Rattle.model.proofs.Open.{whole}
@@ -24,7 +25,7 @@ pub worked-trace : trace worked
     ∷ 62 ∷ 32 ∷ 51 ∷ 55 ∷ 49 ∷ 50 ∷ 32 ∷ 53 ∷ 48 ∷ 48 ∷ 51 ∷ 48 ∷ 48 ∷ 51 ∷ 50 ∷ 48 ∷ 49 ∷ 70 ∷ 52 ∷ 10
     ∷ 50 ∷ 32 ∷ 48 ∷ 32 ∷ 49 ∷ 32 ∷ 48 ∷ 10
     ∷ []
-unfolding whole suits stepped
+unfolding whole decimal suits stepped
 worked-trace = refl
 
 -- `1 0 1 0`: a request was answered in session 1, with no level held; `2 0 1 0`: so a tick
@@ -54,32 +55,32 @@ tick100 = 8 ∷ 0 ∷ 2 ∷ 0 ∷ 0x64 ∷ 0 ∷ 0 ∷ 0 ∷ 0 ∷ 0 ∷ 0 ∷ 0
 
 -- a value of F201, its identifier's low byte first, and `22 F2 01`: `62 F2 01 AA`
 pub value-read : trace ((4 ∷ 0 ∷ 4 ∷ 0 ∷ 0x01 ∷ 0xF2 ∷ 0 ∷ 0xAA ∷ []) ++ three 0x22 0xF2 0x01) ≡ asked ++ told (54 ∷ 50 ∷ 70 ∷ 50 ∷ 48 ∷ 49 ∷ 65 ∷ 65 ∷ 10 ∷ [])
-unfolding whole suits stepped
+unfolding whole decimal suits stepped
 value-read = refl
 
 -- a value of an identifier that has no row is ignored: F201 stays empty
 pub value-ignored : trace ((4 ∷ 0 ∷ 4 ∷ 0 ∷ 0x02 ∷ 0xF2 ∷ 0 ∷ 0xAA ∷ []) ++ three 0x22 0xF2 0x01) ≡ asked ++ told (54 ∷ 50 ∷ 70 ∷ 50 ∷ 48 ∷ 49 ∷ 10 ∷ [])
-unfolding whole suits stepped
+unfolding whole decimal suits stepped
 value-ignored = refl
 
 -- without an outcome `11 01` is answered `7F 11 22`
 pub unanswered-22 : trace (two 0x10 0x11 1) ≡ asked ++ told (55 ∷ 70 ∷ 49 ∷ 49 ∷ 50 ∷ 50 ∷ 10 ∷ [])
-unfolding whole suits stepped
+unfolding whole decimal suits stepped
 unanswered-22 = refl
 
 -- a second outcome replaces the first: `7F 11 33`
 pub second-outcome : trace (outcome 0x10 ++ (outcome 0x33 ++ two 0x10 0x11 1)) ≡ asked ++ told (55 ∷ 70 ∷ 49 ∷ 49 ∷ 51 ∷ 51 ∷ 10 ∷ [])
-unfolding whole suits stepped
+unfolding whole decimal suits stepped
 second-outcome = refl
 
 -- a request uses it up, also one to another address: the next is answered `7F 11 22`
 pub used-up : trace (outcome 0 ++ (two 0x11 0x11 1 ++ two 0x10 0x11 1)) ≡ asked ++ (asked ++ told (55 ∷ 70 ∷ 49 ∷ 49 ∷ 50 ∷ 50 ∷ 10 ∷ []))
-unfolding whole suits stepped
+unfolding whole decimal suits stepped
 used-up = refl
 
 -- a tick does not: `51 01`
 pub not-by-a-tick : trace (outcome 0 ++ (tick100 ++ two 0x10 0x11 1)) ≡ waited ++ (asked ++ told (53 ∷ 49 ∷ 48 ∷ 49 ∷ 10 ∷ []))
-unfolding whole suits stepped
+unfolding whole decimal suits stepped
 not-by-a-tick = refl
 
 -- what is printed before a bad record stays; a record is bad where its head or its body is cut, of a kind that there is not, or of a length that its kind has not
@@ -91,7 +92,7 @@ pub bad-records :
     × (trace (0 ∷ 0 ∷ 3 ∷ 0 ∷ []) ≡ bad)
     × (trace (2 ∷ 0 ∷ 4 ∷ 0 ∷ 0x01 ∷ 0xF2 ∷ []) ≡ bad)
     × (trace [] ≡ [])
-unfolding whole suits stepped
+unfolding whole decimal suits stepped
 bad-records = (refl, refl, refl, refl, refl, refl, refl)
 
 -- kinds 3 and 4 print nothing, and leave the server as it is

@@ -13,7 +13,7 @@ use Rattle.model.specs.State.{State, Step, freshState, withQueue}
 use Rattle.model.specs.Request.{Request, request}
 use Rattle.model.specs.Tick.{tick}
 use Rattle.model.specs.Fixed.{fixedConfig}
-use Rattle.model.specs.Text.{decimal, hex, blank, lineEnd}
+use Rattle.model.specs.Text.{upper, hex, decimal, blank, lineEnd}
 
 -- every number of a record is little-endian
 abbrev pub little : List ℕ → ℕ
@@ -101,7 +101,7 @@ callLine kind p =
 
 -- a line of a drained frame: `>`, destination, frame
 abbrev pub frameLine : Frame → List ℕ
-frameLine f = 62 ∷ blank ∷ decimal (f .dst) ++ (blank ∷ hex (f .bytes) ++ (lineEnd ∷ []))
+frameLine f = 62 ∷ blank ∷ decimal (f .dst) ++ (blank ∷ hex upper (f .bytes) ++ (lineEnd ∷ []))
 
 abbrev pub frameLines : List Frame → List ℕ
 frameLines [] = []

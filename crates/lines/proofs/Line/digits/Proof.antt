@@ -5,7 +5,8 @@ use native.Mathlib.Omega.{arith}
 use denote.Ref.{now}
 use lib.ListN.{length, drop, drop-of-length-le}
 use borrow.Author.Needs.{needs}
-use Rattle.lines.specs.View.{textOf, appended, gap, hexOf}
+use Rattle.model.specs.Text.{hex}
+use Rattle.lines.specs.View.{textOf, appended, gap}
 use Rattle.lines.proofs.Laws.{spelt, more, nothing-more}
 use Rattle.lines.proofs.Line.digits.Statement.{statement}
 use Rattle.lines.proofs.Line.digits.Tie as tie
@@ -14,7 +15,7 @@ abbrev Inv-loop : tie.InvT-loop
 Inv-loop bytes high line₀ i₀ line i =
     (i ≤ length bytes) ×
     (textOf line ≡ appended (textOf line) []) ×
-    (appended (textOf line) (hexOf high (drop i bytes)) ≡ appended (textOf line₀) (hexOf high bytes))
+    (appended (textOf line) (hex high (drop i bytes)) ≡ appended (textOf line₀) (hex high bytes))
 
 abbrev μ-loop : tie.MeasureT-loop
 μ-loop bytes high line₀ i₀ line i = length bytes - i
@@ -54,7 +55,7 @@ loop-again c =
     let y = c .before .before .digit2 in
     let u = textOf (l .line) in
     let pair = x .result ∷ y .result ∷ [] in
-    let rest = hexOf (a .high) (drop (l .i + 1) (now (a .bytes))) in (
+    let rest = hex (a .high) (drop (l .i + 1) (now (a .bytes))) in (
       search needs,
       nothing-more u pair (c .text .ensures),
       ap (λ (t : List ℕ). appended t rest) (c .text .ensures) ∙ more u pair rest
@@ -67,8 +68,8 @@ returns c =
     let l = c .before .loop in
     let t = textOf (a .self) in
     let n : drop (l .i) (now (a .bytes)) ≡ [] = drop-of-length-le (now (a .bytes)) {i = l .i} (omega arith) in
-    l .inv .1 ∙ ap (λ (b : List ℕ). appended (textOf (l .line)) (hexOf (a .high) b)) (sym n) ∙ l .inv .2
-    ∙ ap (λ (u : List ℕ). appended u (hexOf (a .high) (now (a .bytes)))) (c .before .before .gap .ensures) ∙ more t (gap t) (hexOf (a .high) (now (a .bytes)))
+    l .inv .1 ∙ ap (λ (b : List ℕ). appended (textOf (l .line)) (hex (a .high) b)) (sym n) ∙ l .inv .2
+    ∙ ap (λ (u : List ℕ). appended u (hex (a .high) (now (a .bytes)))) (c .before .before .gap .ensures) ∙ more t (gap t) (hex (a .high) (now (a .bytes)))
 
 pub digits-spec : {M : Type 1} → statement M
 digits-spec =
