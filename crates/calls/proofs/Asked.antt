@@ -93,17 +93,17 @@ module _ (w : List ℕ) (s : State) (k subs heads room : List ℕ) (t src dst : 
   told : (x : State) (n : ℕ) → plain (Model.step n (stateOf w x k subs heads room)) ≡ Definition.request maxFrame before asked → Gives x n
   told x n e r (f, g, h) = ap₂ (λ (a : Service.Act) (p : Model.Step). record { act = a; step = p }) h (ap₂ (λ (y : State) (m : ℕ). Model.step m (stateOf w y k subs heads room)) f g) ∙ e
 
-  pub barred : (n : ℕ) → n ≡ barring before t → (n ≡ 0 → ⊥) → Gives s n
+  pub barred : (n : ℕ) → n ≡ barring (Model.valid maxFrame before) t → (n ≡ 0 → ⊥) → Gives s n
   unfolding Definition.request
-  barred n e z = told s n (barred-so before t (λ m. plain (Model.step m before)) _ n e z)
+  barred n e z = told s n (barred-so (Model.valid maxFrame before) t (λ m. plain (Model.step m before)) _ n e z)
 
   -- let through: the state is valid, and the time at most 2^48
-  module _ (n : ℕ) (g : n ≡ barring before t) (z : n ≡ 0) where
+  module _ (n : ℕ) (g : n ≡ barring (Model.valid maxFrame before) t) (z : n ≡ 0) where
     v : Model.valid maxFrame before ≡ true
-    v = let-through before t n g z .0
+    v = let-through (Model.valid maxFrame before) t n g z .0
 
     h : t ≤ maxTime
-    h = let-through before t n g z .1
+    h = let-through (Model.valid maxFrame before) t n g z .1
 
     routes : (m : Option AddressMode) → m ≡ Definition.addressed (configOf w) dst → Definition.routed maxFrame before asked m ≡ Definition.request maxFrame before asked
     unfolding Definition.request

@@ -25,46 +25,51 @@ use Rattle.state.specs.View.{pendingOf, stateOf, stepOf}
 use Rattle.state.specs.declared.State.{State}
 use Rattle.entry.specs.Gate.{barring}
 use Rattle.entry.proofs.Gate.{let-through}
-use Rattle.calls.specs.Pending.{unlessPending, ending, Ends}
+use Rattle.calls.specs.Pending.{ending, Ends}
 
 -- 1 after 10 and 6
-module _ (s : Model.State) (t : ℕ) where
-  -- complete and fail ask for a pending request too
-  module _ (n : ℕ) (g : n ≡ barring s t) where
-    pub ends-barred : (n ≡ 0 → ⊥) → n ≡ ending s t
+module _ (valid on : Bool) (t n : ℕ) where
+  module _ (g : n ≡ barring valid t) where
+    pub ends-barred : (n ≡ 0 → ⊥) → n ≡ ending valid on t
     unfolding barring ending
-    ends-barred z = go (Model.valid maxFrame s) (leb t maxTime) g
+    ends-barred z = go valid (leb t maxTime) g
       where
-        go : (v b : Bool) → n ≡ pick v (pick b 0 6) 10 → n ≡ pick v (pick b (unlessPending (s .pending)) 6) 10
+        go : (v b : Bool) → n ≡ pick v (pick b 0 6) 10 → n ≡ pick v (pick b (pick on 0 1) 6) 10
         go false b e = e
         go true false e = e
         go true true e = absurd (z e)
 
-    pub ends-through : n ≡ 0 → unlessPending (s .pending) ≡ ending s t
+    ends-through : n ≡ 0 → pick on 0 1 ≡ ending valid on t
     unfolding ending
-    ends-through z = let p = let-through s t n g z in rw (p .0, le-leb t maxTime (p .1))
+    ends-through z = let p = let-through valid t n g z in rw (p .0, le-leb t maxTime (p .1))
 
-  pub ended-barred : {A : Type 0} (refused : ℕ → A) (end : Option PendingRequest → A) (n : ℕ) → n ≡ ending s t → (n ≡ 0 → ⊥) → end none ≡ refused 1
-      → refused n ≡ pick (Model.valid maxFrame s) (pick (leb t maxTime) (end (s .pending)) (refused 6)) (refused 10)
-  unfolding ending
-  ended-barred refused end n = go (Model.valid maxFrame s) (leb t maxTime) (s .pending)
-    where
-      go : (v b : Bool) (o : Option PendingRequest) → n ≡ pick v (pick b (unlessPending o) 6) 10 → (n ≡ 0 → ⊥) → end none ≡ refused 1 → refused n ≡ pick v (pick b (end o) (refused 6)) (refused 10)
-      go false b o e z f = rw e
-      go true false o e z f = rw e
-      go true true none e z f = rw (e, f)
-      go true true (some p) e z f = absurd (z e)
+    pub ends-one : n ≡ 0 → on ≡ true → 0 ≡ ending valid on t
+    ends-one z e = ap (λ (o : Bool). pick o 0 1) (sym e) ∙ ends-through z
 
-  pub ended-through : {A : Type 0} (refused : ℕ → A) (end : Option PendingRequest → A) (n : ℕ) → n ≡ ending s t → n ≡ 0
-      → (unlessPending (s .pending) ≡ 0) × (end (s .pending) ≡ pick (Model.valid maxFrame s) (pick (leb t maxTime) (end (s .pending)) (refused 6)) (refused 10))
-  unfolding ending
-  ended-through refused end n g z = go (Model.valid maxFrame s) (leb t maxTime) (s .pending) (sym z ∙ g)
-    where
-      go : (v b : Bool) (o : Option PendingRequest) → _≡_ {A = ℕ} 0 (pick v (pick b (unlessPending o) 6) 10) → (unlessPending o ≡ 0) × (end o ≡ pick v (pick b (end o) (refused 6)) (refused 10))
-      go false b o e = absurd (omega arith)
-      go true false o e = absurd (omega arith)
-      go true true none e = absurd (omega arith)
-      go true true (some p) e = (refl, refl)
+    pub ends-none : n ≡ 0 → on ≡ false → 1 ≡ ending valid on t
+    ends-none z e = ap (λ (o : Bool). pick o 0 1) (sym e) ∙ ends-through z
+
+  -- complete and fail end a pending request by some step, or answer with the number alone
+  module _ {A : Type 0} (refused : ℕ → A) (end : Option PendingRequest → A) (p : PendingRequest) (g : n ≡ ending valid on t) where
+    pub ended-barred : (n ≡ 0 → ⊥) → end none ≡ refused 1 → refused n ≡ pick valid (pick (leb t maxTime) (end (pick on (some p) none)) (refused 6)) (refused 10)
+    unfolding ending
+    ended-barred z f = go valid (leb t maxTime) on g
+      where
+        go : (v b o : Bool) → n ≡ pick v (pick b (pick o 0 1) 6) 10 → refused n ≡ pick v (pick b (end (pick o (some p) none)) (refused 6)) (refused 10)
+        go false b o e = rw e
+        go true false o e = rw e
+        go true true false e = rw (e, f)
+        go true true true e = absurd (z e)
+
+    pub ended-through : n ≡ 0 → end (some p) ≡ pick valid (pick (leb t maxTime) (end (pick on (some p) none)) (refused 6)) (refused 10)
+    unfolding ending
+    ended-through z = go valid (leb t maxTime) on (sym z ∙ g)
+      where
+        go : (v b o : Bool) → _≡_ {A = ℕ} 0 (pick v (pick b (pick o 0 1) 6) 10) → end (some p) ≡ pick v (pick b (end (pick o (some p) none)) (refused 6)) (refused 10)
+        go false b o e = absurd (omega arith)
+        go true false o e = absurd (omega arith)
+        go true true false e = absurd (omega arith)
+        go true true true e = refl
 
 -- a payload made where it will wait, or found too long in the making, is confirmed
 confirms : (mode : AddressMode) (q : List Frame) (to sid : ℕ) (payload : List ℕ) (o : Reading) → o ≡ appended maxFrame [] payload → answered maxFrame mode q to sid (readReply o) ≡ Queue.confirmed maxFrame mode q to sid payload
@@ -79,49 +84,41 @@ pub confirmed-made : (mode : AddressMode) (q : List Frame) (to sid : ℕ) (paylo
 unfolding answered
 confirmed-made mode q to sid payload made e = confirms mode q to sid payload (going made) e
 
--- one is pending
-is-pending : (on : Bool) (p : PendingRequest) → unlessPending (pick on (some p) none) ≡ 0 → on ≡ true
-is-pending true p e = refl
-is-pending false p e = absurd (omega arith)
-
--- and is seen so
-pub pending-so : (s : State) (n : ℕ) → unlessPending (pendingOf (s .pending)) ≡ n → (s .pending .on ≡ true → 0 ≡ n) × (s .pending .on ≡ false → 1 ≡ n)
-pending-so s n e = (λ on. rw on at e, λ on. rw on at e)
-
-module _ (w : List ℕ) (s : State) (k subs heads room : List ℕ) (t : ℕ) where
+module _ (w : List ℕ) (s : State) (k subs heads room : List ℕ) (t : ℕ) (found : Bool) (n : ℕ) (v : found ≡ Model.valid maxFrame (stateOf w s k subs heads room)) (g : n ≡ ending found (s .pending .on) t) where
   abbrev before : Model.State
   before = stateOf w s k subs heads room
 
-  module _ (payload : List ℕ) where
-    pub complete-barred : (n : ℕ) → n ≡ ending before t → (n ≡ 0 → ⊥) → Model.step n before ≡ complete maxFrame before t payload
-    unfolding complete completed
-    complete-barred n g z = ended-barred before t (λ m. Model.step m before) (completed maxFrame before payload) n g z refl
+  -- the request that is pending, where one is
+  abbrev waiting : PendingRequest
+  waiting = record { dst = s .pending .dst; sid = s .pending .sid; deadline = s .pending .deadline .0 }
 
-    pub completes : (p : Pushed) (r : State) (heads' room' : List ℕ) (n : ℕ) → n ≡ ending before t → n ≡ 0
+  asked : n ≡ ending (Model.valid maxFrame before) (s .pending .on) t
+  asked = rw v at g
+
+  module _ (payload : List ℕ) where
+    pub complete-barred : (n ≡ 0 → ⊥) → Model.step n before ≡ complete maxFrame before t payload
+    unfolding complete completed
+    complete-barred z = ended-barred (Model.valid maxFrame before) (s .pending .on) t n (λ m. Model.step m before) (completed maxFrame before payload) waiting asked z refl
+
+    pub completes : n ≡ 0 → (p : Pushed) (r : State) (heads' room' : List ℕ)
         → View.stepOf p heads' room' ≡ Queue.confirmed maxFrame (modeOf (s .functional)) (queueOf (s .frames) heads room) (s .pending .dst) (s .pending .sid) payload → Ends s (p .count) r
         → stepOf w (record { state = r; result = p .result }) k subs heads' room' ≡ complete maxFrame before t payload
     unfolding complete completed confirmed
-    completes p r heads' room' n g z q d =
-        let e = ended-through before t (λ m. Model.step m before) (completed maxFrame before payload) n g z in
-        let x : confirmed maxFrame (withPending before none) (s .pending .dst) (s .pending .sid) payload ≡ completed maxFrame before payload (before .pending) = rw (is-pending (s .pending .on) _ (e .0)) in
+    completes z p r heads' room' q d =
         ap (Model.step (p .result)) (d .state w k subs heads room heads' room')
         ∙ ap (taken (withPending before none)) q
-        ∙ x
-        ∙ e .1
+        ∙ ended-through (Model.valid maxFrame before) (s .pending .on) t n (λ m. Model.step m before) (completed maxFrame before payload) waiting asked z
 
   module _ (code : ℕ) where
-    pub fail-barred : (n : ℕ) → n ≡ ending before t → (n ≡ 0 → ⊥) → Model.step n before ≡ fail maxFrame before t code
+    pub fail-barred : (n ≡ 0 → ⊥) → Model.step n before ≡ fail maxFrame before t code
     unfolding fail failed
-    fail-barred n g z = ended-barred before t (λ m. Model.step m before) (failed before code) n g z refl
+    fail-barred z = ended-barred (Model.valid maxFrame before) (s .pending .on) t n (λ m. Model.step m before) (failed before code) waiting asked z refl
 
-    pub fails : (p : Pushed) (r : State) (heads' room' : List ℕ) (n : ℕ) → n ≡ ending before t → n ≡ 0
+    pub fails : n ≡ 0 → (p : Pushed) (r : State) (heads' room' : List ℕ)
         → View.stepOf p heads' room' ≡ Queue.refused (modeOf false) (queueOf (s .frames) heads room) (s .pending .dst) (s .pending .sid) code → Ends s (p .count) r
         → stepOf w (record { state = r; result = p .result }) k subs heads' room' ≡ fail maxFrame before t code
     unfolding fail failed queued Queue.refused Queue.withheld
-    fails p r heads' room' n g z q d =
-        let e = ended-through before t (λ m. Model.step m before) (failed before code) n g z in
-        let x : queued (withPending before none) (s .pending .dst) (negativeFrame (s .pending .sid) code) ≡ failed before code (before .pending) = rw (is-pending (s .pending .on) _ (e .0)) in
+    fails z p r heads' room' q d =
         ap (Model.step (p .result)) (d .state w k subs heads room heads' room')
         ∙ ap (taken (withPending before none)) q
-        ∙ x
-        ∙ e .1
+        ∙ ended-through (Model.valid maxFrame before) (s .pending .on) t n (λ m. Model.step m before) (failed before code) waiting asked z

@@ -38,7 +38,7 @@ use Rattle.entry.proofs.Gate.{barred-so}
 use Rattle.calls.proofs.Asked.{to-none, refused-2, answers-so}
 
 -- 10 and 6 are told as they are
-barred-told : (s : Model.State) (t n : ℕ) → n ≡ barring s t → (n ≡ 0 → ⊥) → told n ≡ n
+barred-told : (s : Model.State) (t n : ℕ) → n ≡ barring (Model.valid maxFrame s) t → (n ≡ 0 → ⊥) → told n ≡ n
 unfolding barring
 barred-told s t n = go (Model.valid maxFrame s) (leb t maxTime)
   where
@@ -66,11 +66,11 @@ module _ (w : List ℕ) (s : State) (k subs heads room : List ℕ) (t src dst : 
   unfolding question Question.askedOf
   by-request n a e f r g = g ∙ ap (λ (m : ℕ). record { result = m; act = a .act }) (sym e) ∙ ap Question.askedOf f
 
-  pub asked-barred : (n : ℕ) → n ≡ barring before t → (n ≡ 0 → ⊥) → Says n noAct
+  pub asked-barred : (n : ℕ) → n ≡ barring (Model.valid maxFrame before) t → (n ≡ 0 → ⊥) → Says n noAct
   unfolding Definition.request
-  asked-barred n e z = by-request n (plain (Model.step n before)) (barred-told before t n e z) (barred-so before t (λ m. plain (Model.step m before)) _ n e z)
+  asked-barred n e z = by-request n (plain (Model.step n before)) (barred-told before t n e z) (barred-so (Model.valid maxFrame before) t (λ m. plain (Model.step m before)) _ n e z)
 
-  module _ (n : ℕ) (g : n ≡ barring before t) (z : n ≡ 0) (x : Address) (a : addressedOf x ≡ Definition.addressed (configOf w) dst) where
+  module _ (n : ℕ) (g : n ≡ barring (Model.valid maxFrame before) t) (z : n ≡ 0) (x : Address) (a : addressedOf x ≡ Definition.addressed (configOf w) dst) where
     pub asked-foreign : x ≡ Foreign → Says 0 noAct
     asked-foreign e = by-request 0 (plain (Model.step 0 before)) refl (to-none w s k subs heads room t src dst frame 0 [] [] [] n g z x a e)
 

@@ -21,19 +21,19 @@ module _ (w : List ℕ) (s : State) (k subs heads room : List ℕ) (t : ℕ) (va
   abbrev before : Model.State
   before = stateOf w s k subs heads room
 
-  pub tick-barred : (n : ℕ) → n ≡ barring before t → (n ≡ 0 → ⊥) → record { err = 0; step = Model.step n before } ≡ tick maxFrame before t (Values.tableOf values pool)
+  pub tick-barred : (n : ℕ) → n ≡ barring (Model.valid maxFrame before) t → (n ≡ 0 → ⊥) → record { err = 0; step = Model.step n before } ≡ tick maxFrame before t (Values.tableOf values pool)
   unfolding tick
-  tick-barred n g z = barred-so before t (λ m. record { err = 0; step = Model.step m before }) _ n g z
+  tick-barred n g z = barred-so (Model.valid maxFrame before) t (λ m. record { err = 0; step = Model.step m before }) _ n g z
 
-  module _ (n : ℕ) (g : n ≡ barring before t) (z : n ≡ 0) (a : SessionState) (k' : List ℕ) (p : Lapses w (s .session) k t a k')
+  module _ (n : ℕ) (g : n ≡ barring (Model.valid maxFrame before) t) (z : n ≡ 0) (a : SessionState) (k' : List ℕ) (p : Lapses w (s .session) k t a k')
       (r : Said) (heads1 room1 : List ℕ) (q : Refreshes w (a .«session_type») (s .pending) (s .frames) heads room t r heads1 room1) where
     -- 0x78 met 3
     pub ends-3 : (r .result ≡ 0 → ⊥) → tickOf w (record { state = leaving w s k subs heads room t values pool a (r .pending) (r .frames); result = r .result; err = 0 }) k' subs heads1 room1 ≡ tick maxFrame before t (Values.tableOf values pool)
-    ends-3 m = let v = let-through before t n g z in
+    ends-3 m = let v = let-through (Model.valid maxFrame before) t n g z in
         tick-3 w s k subs heads room t values pool (v .0) (v .1) a k' p r heads1 room1 q m
 
     -- it met none, or nothing was due
     pub goes-on : (x : Sent) (subs' heads' room' : List ℕ) → r .result ≡ 0 → Sends subs (s .subscriptions) (r .frames) heads1 room1 t (Values.tableOf values pool) x subs' heads' room'
         → tickOf w (record { state = leaving w s k subs heads room t values pool a (r .pending) (x .frames); result = x .result; err = x .err }) k' subs' heads' room' ≡ tick maxFrame before t (Values.tableOf values pool)
-    goes-on x subs' heads' room' m d = let v = let-through before t n g z in
+    goes-on x subs' heads' room' m d = let v = let-through (Model.valid maxFrame before) t n g z in
         tick-sent w s k subs heads room t values pool (v .0) (v .1) a k' p r heads1 room1 q x subs' heads' room' m d

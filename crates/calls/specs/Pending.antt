@@ -2,24 +2,19 @@
 use Prim.Native.Nat.{ℕ}
 use mathlib.Core.Path.{_≡_}
 use mathlib.Core.List.{List}
-use mathlib.Core.Option.{Option, some, none}
+use mathlib.Core.Bool.{Bool}
+use mathlib.Core.Option.{none}
 use lib.Dec.{leb}
 use Rattle.model.specs.Tests.{pick}
-use Rattle.model.specs.Numbers.{Moment, maxFrame, maxTime}
-use Rattle.model.specs.State as Model
-use Rattle.model.specs.State.{PendingRequest, valid, withPending, withQueue}
+use Rattle.model.specs.Numbers.{Moment, maxTime}
+use Rattle.model.specs.State.{withPending, withQueue}
 use Rattle.queue.specs.View.{queueOf}
 use Rattle.state.specs.View.{stateOf}
 use Rattle.state.specs.declared.State.{State}
 
--- 1 where no request is pending
-abbrev pub unlessPending : Option PendingRequest → ℕ
-unlessPending none = 1
-unlessPending (some p) = 0
-
--- what complete and fail ask first: 1 after 6
-unfoldable pub ending : Model.State → Moment → ℕ
-ending s t = pick (valid maxFrame s) (pick (leb t maxTime) (unlessPending (s .pending)) 6) 10
+-- 10, then 6, then 1 where no request is pending; else 0
+unfoldable pub ending : Bool → Bool → Moment → ℕ
+ending valid on t = pick valid (pick (leb t maxTime) (pick on 0 1) 6) 10
 
 -- nothing is pending, and the queue is that of a count, whatever is lent
 pub record Ends (s : State) (frames : ℕ) (r : State) : Type 0 where

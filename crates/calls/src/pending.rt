@@ -16,6 +16,7 @@ use queue::reply::Pushed;
 use security::Security;
 use state::State;
 use state::apply::Answer;
+use state::valid::is_valid;
 use uds::clock::Instant;
 use uds::nrc::Nrc;
 use uds::result::DONE;
@@ -25,23 +26,14 @@ use uds::result::NOT_PENDING;
 const PHYSICAL: bool = false;
 
 // What both ask first: 10, then 6, then 1 where no request is pending; else 0.
-fn barred(
-    config: &Config,
-    s: State,
-    k: &Security,
-    subs: &Subscriptions,
-    heads: &Heads,
-    room: &Room,
-    t: Instant,
-) -> u8
-    ensures { λ r. ⌜ r ≡ ending (stateOf (now (config .entry)) s (now (k .entry)) (now (subs .entry)) (now (heads .entry)) (now (room .entry))) (t .0) ⌝ }
+fn barred(valid: bool, on: bool, t: Instant) -> u8
+    ensures { λ r. ⌜ r ≡ ending valid on (t .0) ⌝ }
 {
-    let n = entry::barred(config, s, k, subs, heads, room, t);
+    let n = entry::barred(valid, t);
     if n != DONE {
         return n;
     }
-    let pending = s.pending;
-    if pending.on {
+    if on {
         return DONE;
     }
     NOT_PENDING
@@ -102,14 +94,15 @@ pub fn complete(
 ) -> Answer
     ensures { λ r. ⌜ stepOf (now (config .entry)) r (now (k .entry)) (now (subs .entry)) (now (heads .exit)) (now (room .exit)) ≡ Model.complete maxFrame (stateOf (now (config .entry)) s (now (k .entry)) (now (subs .entry)) (now (heads .entry)) (now (room .entry))) (t .0) (now (payload .entry)) ⌝ }
 {
-    let n = barred(config, s, k, subs, heads, room, t);
+    let pending = s.pending;
+    let valid = is_valid(config, s, k, subs, heads, room);
+    let n = barred(valid, pending.on, t);
     if n != DONE {
         return Answer {
             state: s,
             result: n,
         };
     }
-    let pending = s.pending;
     let p = confirmed(
         s.frames,
         heads,
@@ -138,14 +131,15 @@ pub fn fail(
 ) -> Answer
     ensures { λ r. ⌜ stepOf (now (config .entry)) r (now (k .entry)) (now (subs .entry)) (now (heads .exit)) (now (room .exit)) ≡ Model.fail maxFrame (stateOf (now (config .entry)) s (now (k .entry)) (now (subs .entry)) (now (heads .entry)) (now (room .entry))) (t .0) code ⌝ }
 {
-    let n = barred(config, s, k, subs, heads, room, t);
+    let pending = s.pending;
+    let valid = is_valid(config, s, k, subs, heads, room);
+    let n = barred(valid, pending.on, t);
     if n != DONE {
         return Answer {
             state: s,
             result: n,
         };
     }
-    let pending = s.pending;
     let p = queue::reply::refuse(
         s.frames,
         heads,

@@ -13,6 +13,7 @@ use queue::Room;
 use security::Security;
 use service::Act;
 use state::State;
+use state::valid::is_valid;
 use uds::clock::Instant;
 use uds::result::DONE;
 use uds::result::FRAME_LENGTH;
@@ -47,7 +48,8 @@ pub fn question<'a>(
 ) -> Asked
     ensures { λ r. ⌜ askedOf r ≡ Model.question maxFrame (stateOf (now (config .entry)) s (now (k .entry)) (now (subs .entry)) (now (heads .entry)) (now (room .entry))) (inboundOf (t .0) src dst (now (frame .entry))) ⌝ }
 {
-    let n = entry::barred(config, s, k, subs, heads, room, t);
+    let valid = is_valid(config, s, k, subs, heads, room);
+    let n = entry::barred(valid, t);
     if n != DONE {
         return nothing(n);
     }

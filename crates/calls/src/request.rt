@@ -23,6 +23,7 @@ use service::says;
 use state::SessionState;
 use state::State;
 use state::apply::apply;
+use state::valid::is_valid;
 use uds::clock::Instant;
 use uds::nrc::Nrc;
 use uds::result::DONE;
@@ -143,7 +144,8 @@ pub fn request(
 ) -> Answered
     ensures { λ r. ⌜ answerOf (now (config .entry)) r (now (k .exit)) (now (subs .exit)) (now (heads .exit)) (now (room .exit)) ≡ Model.request maxFrame (stateOf (now (config .entry)) s (now (k .entry)) (now (subs .entry)) (now (heads .entry)) (now (room .entry))) (requestOf (t .0) src dst (now (frame .entry)) err (now (given .entry)) (now (values .entry)) (now (pool .entry))) ⌝ }
 {
-    let n = entry::barred(config, s, k, subs, heads, room, t);
+    let valid = is_valid(config, s, k, subs, heads, room);
+    let n = entry::barred(valid, t);
     if n != DONE {
         return unasked(s, n);
     }

@@ -11,6 +11,7 @@ use queue::Heads;
 use queue::Room;
 use security::Security;
 use state::State;
+use state::valid::is_valid;
 use uds::clock::Instant;
 use uds::result::DONE;
 
@@ -36,7 +37,8 @@ pub fn tick(
 ) -> Ticked
     ensures { λ r. ⌜ tickOf (now (config .entry)) r (now (k .exit)) (now (subs .exit)) (now (heads .exit)) (now (room .exit)) ≡ Model.tick maxFrame (stateOf (now (config .entry)) s (now (k .entry)) (now (subs .entry)) (now (heads .entry)) (now (room .entry))) (t .0) (tableOf (now (values .entry)) (now (pool .entry))) ⌝ }
 {
-    let n = entry::barred(config, s, k, subs, heads, room, t);
+    let valid = is_valid(config, s, k, subs, heads, room);
+    let n = entry::barred(valid, t);
     if n != DONE {
         return Ticked {
             state: s,

@@ -4,16 +4,9 @@ ghost use mathlib.Core.Bool.{false, not};
 ghost use Rattle.model.specs.Tests.{pick};
 ghost use Rattle.model.specs.Request as Model;
 ghost use Rattle.config.specs.View.{configOf};
-ghost use Rattle.state.specs.View.{stateOf};
 ghost use Rattle.entry.specs.Gate.{barring};
 ghost use Rattle.entry.specs.Address.{addressedOf};
 use config::Config;
-use periodic::Subscriptions;
-use queue::Heads;
-use queue::Room;
-use security::Security;
-use state::State;
-use state::valid::is_valid;
 use uds::clock::Instant;
 use uds::result::DONE;
 use uds::result::STATE_NOT_VALID;
@@ -28,19 +21,12 @@ pub enum Address {
     Foreign,
 }
 
-// What every call with a time asks first: 10 where the state is not valid, then 6 where the time is above 2^48; else 0.
-pub fn barred(
-    config: &Config,
-    s: State,
-    k: &Security,
-    subs: &Subscriptions,
-    heads: &Heads,
-    room: &Room,
-    t: Instant,
-) -> u8
-    ensures { λ r. ⌜ r ≡ barring (stateOf (now (config .entry)) s (now (k .entry)) (now (subs .entry)) (now (heads .entry)) (now (room .entry))) (t .0) ⌝ }
+// What every call with a time asks first: 10 where the state is not valid, then 6 where the time is above 2^48; else 0. It is told whether the state is
+// valid, since a state that is handed on is copied.
+pub fn barred(valid: bool, t: Instant) -> u8
+    ensures { λ r. ⌜ r ≡ barring valid (t .0) ⌝ }
 {
-    if !is_valid(config, s, k, subs, heads, room) {
+    if !valid {
         return STATE_NOT_VALID;
     }
     if Instant::MAX_TIME < t.0 {
