@@ -1,6 +1,6 @@
 -- The services that ask no act.
 use Prim.Native.Nat.{ℕ, _%_}
-use mathlib.Core.Path.{_≡_, refl, ap, sym, _∙_}
+use mathlib.Core.Path.{_≡_, refl}
 use mathlib.Core.Bool.{_&&_}
 use mathlib.Core.Option.{Option, some, none}
 use lib.ListN.{length, getD}

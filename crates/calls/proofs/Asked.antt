@@ -1,23 +1,22 @@
 -- One law for each way out of a request.
-use Prim.Native.Nat.{ℕ, _≤_, _<_}
+use Prim.Native.Nat.{ℕ, _≤_}
 use mathlib.Core.Path.{_≡_, refl, ap, ap₂, sym, _∙_}
 use mathlib.Core.Bool.{Bool, true, false, false≢true, not, _&&_}
 use mathlib.Core.List.{List}
 use mathlib.Core.Option.{Option, some, none}
-use native.Mathlib.Omega.{arith}
 use lib.ListN.{length}
-use lib.Dec.{eqb, leb, ltb}
+use lib.Dec.{eqb, leb}
 use borrow.Author.Tests.{le-leb, eqb-true, not-true, not-false}
 use Rattle.model.specs.Tests.{pick}
 use Rattle.model.specs.Numbers.{maxFrame, maxTime, maxPeriodic}
-use Rattle.model.specs.Config.{Config, ServiceConfig, findService, allowedIn, tableWithin}
-use Rattle.model.specs.Frame.{Frame, sidOf, payloadOf, negativeFrame}
+use Rattle.model.specs.Config.{ServiceConfig, findService, allowedIn}
+use Rattle.model.specs.Frame.{Frame, sidOf, payloadOf}
 use Rattle.model.specs.State as Model
-use Rattle.model.specs.State.{AddressMode, physical, functional, PendingRequest, Security, Subscription, subscriptionValid, received, withQueue, withRecords}
-use Rattle.model.specs.Queue.{always, answered}
+use Rattle.model.specs.State.{AddressMode, PendingRequest, Security, Subscription, subscriptionValid, received, withQueue, withRecords}
+use Rattle.model.specs.Queue.{answered}
 use Rattle.model.specs.Reply.{replied, queued}
 use Rattle.model.specs.Service as Service
-use Rattle.model.specs.Service.{Seen, Served, noAct, says, answers, refuses}
+use Rattle.model.specs.Service.{Seen, Served, noAct, refuses}
 use Rattle.model.specs.Request as Definition
 use Rattle.model.specs.Request.{Request, plain, lengthFits}
 use Rattle.model.proofs.Laws.{within-length}
@@ -25,14 +24,14 @@ use Rattle.model.proofs.Valid.Parts.{valid-parts}
 use Rattle.config.specs.View.{configOf}
 use Rattle.periodic.specs.View.{tableOf}
 use Rattle.security.specs.View.{securityOf}
-use Rattle.queue.specs.View.{queueOf, modeOf}
-use Rattle.state.specs.View.{stateOf, stepOf, effectOf, madeAt, Applies}
+use Rattle.queue.specs.View.{modeOf}
+use Rattle.state.specs.View.{stateOf, stepOf, effectOf, Applies}
 use Rattle.state.proofs.Applied.{made-now}
 use Rattle.state.specs.declared.State.{State}
 use Rattle.state.specs.declared.apply.Effect.{Effect}
 use Rattle.state.specs.declared.apply.Answer as Applied
 use Rattle.service.specs.Act.{actOf}
-use Rattle.service.specs.Fitted.{fitted, fittedEffect}
+use Rattle.service.specs.Fitted.{fitted}
 use Rattle.queue.specs.declared.reply.Reply.the-variants.{Always}
 use Rattle.service.specs.Seen.{Serves, saysOf}
 use Rattle.service.specs.declared.Wanted.{Wanted}

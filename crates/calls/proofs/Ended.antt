@@ -1,6 +1,6 @@
 -- One law for each way out of complete and fail.
 use Prim.Native.Nat.{ℕ}
-use mathlib.Core.Path.{_≡_, refl, ap, ap₂, sym, _∙_}
+use mathlib.Core.Path.{_≡_, refl, ap, sym, _∙_}
 use mathlib.Core.Bool.{Bool, true, false}
 use mathlib.Core.List.{List, []}
 use mathlib.Core.Option.{Option, some, none}
@@ -9,7 +9,7 @@ use lib.Dec.{leb}
 use borrow.Author.Tests.{le-leb}
 use Rattle.model.specs.Tests.{pick}
 use Rattle.model.specs.Numbers.{maxFrame, maxTime}
-use Rattle.model.specs.Frame.{Frame, negativeFrame}
+use Rattle.model.specs.Frame.{Frame}
 use Rattle.model.specs.State as Model
 use Rattle.model.specs.State.{AddressMode, PendingRequest, withPending}
 use Rattle.model.specs.Queue as Queue
@@ -21,7 +21,7 @@ use Rattle.queue.specs.View.{queueOf, modeOf}
 use Rattle.queue.specs.View as View
 use Rattle.queue.proofs.Replied.{made}
 use Rattle.queue.specs.declared.reply.Pushed.{Pushed}
-use Rattle.state.specs.View.{pendingOf, stateOf, stepOf}
+use Rattle.state.specs.View.{stateOf, stepOf}
 use Rattle.state.specs.declared.State.{State}
 use Rattle.entry.specs.Gate.{barring}
 use Rattle.entry.proofs.Gate.{let-through}

@@ -1,11 +1,10 @@
 -- One law for each way out of a question. It is the definition's request with nothing handed in, of which the act and 10, 6 or 2 are told.
 use Prim.Native.Nat.{ℕ}
-use mathlib.Core.Path.{_≡_, refl, ap, ap₂, sym, _∙_}
+use mathlib.Core.Path.{_≡_, refl, ap, sym, _∙_}
 use mathlib.Core.Bool.{Bool, true, false, not}
 use mathlib.Core.List.{List, [], _∷_}
-use lib.ListN.{length}
 use lib.Dec.{leb}
-use Rattle.model.specs.Tests.{pick, memb}
+use Rattle.model.specs.Tests.{pick}
 use Rattle.model.specs.Numbers.{maxFrame, maxTime}
 use Rattle.model.specs.Frame.{sidOf, payloadOf}
 use Rattle.model.specs.State as Model

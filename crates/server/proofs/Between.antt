@@ -1,6 +1,6 @@
 -- The key stands between, of the code: two runs from a fresh server whose calls differ only in what the value tables say of an identifier behind a level,
 -- and in the key bytes of sendKey, show the same and leave the same while the held level is below. And what a question says, and what is not seen.
-use Prim.Native.Nat.{ℕ, suc, zero, _≤_, _<_}
+use Prim.Native.Nat.{ℕ, suc, zero, _<_}
 use mathlib.Core.Path.{_≡_, refl, ap, ap₂, sym, _∙_, subst}
 use mathlib.Core.Bool.{true}
 use mathlib.Core.List.{List, [], _∷_}

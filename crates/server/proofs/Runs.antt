@@ -1,7 +1,7 @@
 -- Runs of the code, by either door: a row of calls, each with what is held before and after it and with what it showed, that meet the promise of the
 -- function that was called. What such a run shows, and what it leaves, is what the definition's history says.
 use Prim.Native.Nat.{ℕ}
-use mathlib.Core.Path.{_≡_, refl, ap, ap₂, sym, _∙_}
+use mathlib.Core.Path.{_≡_, refl, ap, sym, _∙_}
 use mathlib.Core.List.{List, [], _∷_}
 use denote.Ref.{now}
 use Rattle.model.specs.Numbers.{maxFrame}
