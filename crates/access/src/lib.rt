@@ -1,2 +1,3 @@
 // Access: 27.
+#![tactic(auto)]
 pub mod service27;

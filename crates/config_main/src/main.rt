@@ -1,5 +1,6 @@
 // Lookups at first, last, duplicate and missing keys, in the fixed configuration of `udstrace` and in a full one. A line has what was
 // looked up, its key, the number of the row that was found (`-` for none), and how many rows were examined.
+#![tactic(auto)]
 mod full;
 mod show;
 

@@ -1,5 +1,6 @@
 // Lines of text: words, decimal numbers and bytes in hex, put one behind the other into a line by value, and written out. A line has room
 // for 640 bytes and what is past them is cut: by promise, and not by the programs. What no contract can say is what is written.
+#![tactic(auto)]
 ghost use Rattle.std.specs.Prelude.{◌≡◌, [], ◌++◌, ◌+◌, ◌≤◌, ◌<◌, length, take};
 ghost use Rattle.model.specs.Text.{upper, lower, hex, decimal};
 ghost use Rattle.model.specs.Text.{digit as digitOf};

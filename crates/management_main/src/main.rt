@@ -2,6 +2,7 @@
 // the seed is cleared and whether the change waits: 1 is yes and 0 is no. After 27 a second line has the security words: the seed's level and length, how
 // many counts there are and the first, how many locks and the first. Replies are in hex, numbers decimal.
 // What it must write was worked out by hand from the rules in docs/PROMISES.md, before the program ran.
+#![tactic(auto)]
 mod keys;
 mod sessions;
 

@@ -1,6 +1,7 @@
 // The subscription table at its edges. A table entry is a line of its number, identifier, client, interval and the moment when it is next due; any other
 // line says what is asked, and the answer: how many entries stand, `full`, the number of the entry found or `-`, 1 for yes and 0 for no. What it must
 // write was worked out by hand from the rules in docs/PROMISES.md, before the program ran.
+#![tactic(auto)]
 mod edges;
 mod show;
 

@@ -1,5 +1,6 @@
 // Runs the queue at its edges and writes every byte that it drains. A line is the result and how many frames wait; of a drain it is
 // the result, how many frames were written and how many wait then, and the next line the whole buffer.
+#![tactic(auto)]
 use lines::Line;
 use queue::reply::{Pushed, Reply};
 use queue::{Heads, Room};

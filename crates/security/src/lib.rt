@@ -2,6 +2,7 @@
 // locked. Words 0 to 3 are the seed's length and level, and how many counts and locks there are; from 4 on stand the seed's bytes,
 // from 36 on eight counts (level, refused keys), from 52 on eight locks (level, until). Every promise is an equation to the definition
 // in the crate `model`.
+#![tactic(auto)]
 ghost use Rattle.std.specs.Prelude.{◌≡◌, ◌+◌, ◌≤◌, ◌<◌, min, false, [], length};
 ghost use Rattle.model.specs.Tests.{all};
 ghost use Rattle.model.specs.Numbers.{max_seed};

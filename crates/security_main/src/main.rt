@@ -1,6 +1,7 @@
 // The security record at its edges: the lists of refused keys and of locks, the seed that awaits its key, and the record valid or just not. Of a seed a
 // line has its level, its length, and all 32 bytes that may hold one, in hex; else numbers are decimal, and 1 is yes and 0 is no. What it must write was
 // worked out by hand from the rules in docs/PROMISES.md, before the program ran.
+#![tactic(auto)]
 mod valid;
 
 use lines::Line;

@@ -1,6 +1,7 @@
 // A fresh server, and drains by both doors. Of a fresh server a line has the result, both addresses, session, level, subscriptions and waiting frames; of a
 // drain the result, how many frames were written, how many wait then, and the buffer, which held EE. What it must write was worked out by hand from the rules
 // in docs/PROMISES.md, before the program ran.
+#![tactic(auto)]
 mod requests;
 mod show;
 

@@ -2,6 +2,7 @@
 // and with one more; of an effect it has the result, session, waiting frames, whether a request is pending, and its deadline; where a seed awaits its key,
 // the result, the seed's length, session, level, subscriptions, the last request's moment, and whether that was functional. 1 is yes and 0 is no.
 // What it must write was worked out by hand from the rules in docs/PROMISES.md, before the program ran.
+#![tactic(auto)]
 mod edges;
 mod effects;
 

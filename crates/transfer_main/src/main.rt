@@ -1,5 +1,6 @@
 // Runs 34, 36, 37 and 38 at the edges of their payloads and of what is handed in for their acts. Of each request two lines: what a question is told, and
 // the act and the reply.
+#![tactic(auto)]
 use lines::Line;
 use queue::Room;
 use queue::reply::Reply;

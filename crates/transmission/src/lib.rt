@@ -1,2 +1,3 @@
 // Periodic transmission: 2A.
+#![tactic(auto)]
 pub mod service2A;

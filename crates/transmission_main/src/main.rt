@@ -1,6 +1,7 @@
 // 22, 2E and 2A at their edges. A line says what is asked and what is said: the reply, and the frame that it becomes, by its length and its first bytes.
 // Of 2E it also has the act, of 2A how many subscriptions stand. What it must write was worked out by hand from the rules in docs/PROMISES.md, before the
 // program ran.
+#![tactic(auto)]
 mod reading;
 mod show;
 mod subscribing;

@@ -1,5 +1,6 @@
 // The clock, the codes, the rules of frames and the value table, each at its edges. What it must write was worked out by hand from the rules in
 // docs/PROMISES.md. Codes and bytes are in hex, other numbers decimal.
+#![tactic(auto)]
 use lines::Line;
 use uds::clock::{Duration, Instant};
 use uds::nrc::{Nrc, Rate};

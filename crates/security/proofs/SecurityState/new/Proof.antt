@@ -1,9 +1,0 @@
-use mathlib.Core.Path.{refl}
-use Rattle.security.proofs.SecurityState.new.Statement.{statement}
-use Rattle.security.proofs.SecurityState.new.Tie as tie
-
-returns : tie.Need-returns
-returns c = refl
-
-pub new_spec : {M : Type 1} → statement M
-new_spec = tie.close (tie.spec returns)
