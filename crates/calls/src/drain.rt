@@ -15,7 +15,7 @@ use uds::result::STATE_NOT_VALID;
 
 // The state that is left, the result, and how many frames were written.
 #[repr(C)]
-#[derive(Drop)]
+#[derive(Clone, Copy)]
 pub struct Drained {
     pub state: State,
     pub result: u8,

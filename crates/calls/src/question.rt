@@ -19,7 +19,7 @@ use uds::result::{DONE, FRAME_LENGTH};
 
 // The act, none where the request would ask none, and 10, 6 or 2 where the request would be refused by it; else 0, whatever its reply would meet.
 #[repr(C)]
-#[derive(Drop)]
+#[derive(Clone, Copy)]
 pub struct Asked {
     pub act: Act,
     pub result: u8,

@@ -27,7 +27,7 @@ use uds::result::{DONE, FRAME_LENGTH};
 
 // The state that is left, the result, and the act that was asked.
 #[repr(C)]
-#[derive(Drop)]
+#[derive(Clone, Copy)]
 pub struct Answered {
     pub state: State,
     pub result: u8,

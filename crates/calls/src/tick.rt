@@ -17,7 +17,7 @@ use uds::result::DONE;
 
 // The state that is left, the result, and the error byte that comes with 8.
 #[repr(C)]
-#[derive(Drop)]
+#[derive(Clone, Copy)]
 pub struct Ticked {
     pub state: State,
     pub result: u8,

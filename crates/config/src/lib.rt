@@ -1,5 +1,6 @@
 // The configuration: a lent image of words, and what is read from it. Only this crate knows where its words stand.
 #![tactic(auto)]
+
 ghost use Rattle.std.specs.Prelude.{◌≡◌, ◌+◌, ◌*◌};
 ghost use Rattle.model.specs.Tests.{memb};
 ghost use Rattle.model.specs.Config as Model;

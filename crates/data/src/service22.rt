@@ -19,7 +19,7 @@ use uds::nrc::Nrc;
 use uds::values::Outcome;
 
 // How many bytes the reply has so far, or the error byte that ends it.
-#[derive(Drop)]
+#[derive(Clone, Copy)]
 enum Reading {
     Going(usize),
     Ended(u8),

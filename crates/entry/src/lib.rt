@@ -15,7 +15,7 @@ use uds::result::{DONE, STATE_NOT_VALID, TIME_TOO_LATE};
 const MAX_REQUEST: usize = 4095;
 
 // How a frame was addressed: functionally or not, or to another.
-#[derive(Drop)]
+#[derive(Clone, Copy)]
 pub enum Address {
     By(bool),
     Foreign,

@@ -12,7 +12,7 @@ const UPPER: u8 = 55;
 
 const LOWER: u8 = 87;
 
-#[derive(Drop)]
+#[derive(Clone, Copy)]
 pub struct Line {
     pub len: usize,
     pub bytes: [u8; 640],

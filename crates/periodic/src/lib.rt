@@ -18,7 +18,7 @@ pub type Subscriptions = [u64; 64];
 
 pub const MAX_PERIODIC: u8 = 16;
 
-#[derive(Drop)]
+#[derive(Clone, Copy)]
 pub struct PeriodicEntry {
     pub identifier: u16,
     pub client: u32,
@@ -27,14 +27,14 @@ pub struct PeriodicEntry {
 }
 
 // What registering answers: how many entries stand now, or that there is no room for another.
-#[derive(Drop)]
+#[derive(Clone, Copy)]
 pub enum Registered {
     Stands(u8),
     Full,
 }
 
 // How many entries stand; the words that hold them are lent beside it.
-#[derive(Drop)]
+#[derive(Clone, Copy)]
 pub struct PeriodicState {
     pub count: u8,
 }

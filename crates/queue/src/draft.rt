@@ -8,7 +8,7 @@ use super::reply::Reply;
 use uds::nrc::Nrc;
 
 // How many bytes the reply in the making has, or that it would be too long.
-#[derive(Drop)]
+#[derive(Clone, Copy)]
 pub enum Drafted {
     Going(usize),
     TooLong,

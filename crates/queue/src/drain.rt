@@ -13,7 +13,7 @@ use uds::result;
 
 // The result, how many frames were written, and how many wait then.
 #[repr(C)]
-#[derive(Drop)]
+#[derive(Clone, Copy)]
 pub struct Drained {
     pub result: u8,
     pub frames: u8,

@@ -10,7 +10,7 @@ use uds::nrc::Nrc;
 use uds::result;
 
 // What a service says. A positive payload stands in the free place, and is told by its length.
-#[derive(Drop)]
+#[derive(Clone, Copy)]
 pub enum Reply {
     Silent,
     Positive(usize),
@@ -21,7 +21,7 @@ pub enum Reply {
 
 // The result, and how many frames wait then.
 #[repr(C)]
-#[derive(Drop)]
+#[derive(Clone, Copy)]
 pub struct Pushed {
     pub result: u8,
     pub count: u8,

@@ -34,7 +34,7 @@ const MAX_SEED: usize = 32;
 
 const MAX_LEVELS: u64 = 8;
 
-#[derive(Drop)]
+#[derive(Clone, Copy)]
 pub struct SecurityState {
     pub words: Security,
 }

@@ -7,7 +7,7 @@ ghost use Rattle.server.specs.View.{server_of, drained_of};
 use super::fresh::Server;
 
 #[repr(C)]
-#[derive(Drop)]
+#[derive(Clone, Copy)]
 pub struct ServerDrained {
     pub server: Server,
     pub result: u8,

@@ -12,7 +12,7 @@ use state::State;
 use uds::result::{CONFIGURATION, DONE};
 
 #[repr(C)]
-#[derive(Drop)]
+#[derive(Clone, Copy)]
 pub struct Server {
     pub config: Config,
     pub security: Security,
@@ -23,7 +23,7 @@ pub struct Server {
 }
 
 #[repr(C)]
-#[derive(Drop)]
+#[derive(Clone, Copy)]
 pub struct Fresh {
     pub server: Server,
     pub result: u8,

@@ -8,7 +8,7 @@ use super::fresh::Server;
 use uds::clock::Instant;
 
 #[repr(C)]
-#[derive(Drop)]
+#[derive(Clone, Copy)]
 pub struct ServerAnswer {
     pub server: Server,
     pub result: u8,

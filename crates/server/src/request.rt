@@ -13,7 +13,7 @@ use service::Act;
 use uds::clock::Instant;
 
 #[repr(C)]
-#[derive(Drop)]
+#[derive(Clone, Copy)]
 pub struct ServerAnswered {
     pub server: Server,
     pub result: u8,

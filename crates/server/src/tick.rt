@@ -9,7 +9,7 @@ use super::fresh::Server;
 use uds::clock::Instant;
 
 #[repr(C)]
-#[derive(Drop)]
+#[derive(Clone, Copy)]
 pub struct ServerTicked {
     pub server: Server,
     pub result: u8,

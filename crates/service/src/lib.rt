@@ -19,7 +19,7 @@ use uds::nrc::Nrc;
 
 // A part of the frame, by start and length: 0 and 0 when it is empty.
 #[repr(C)]
-#[derive(Drop)]
+#[derive(Clone, Copy)]
 pub struct Part {
     pub start: usize,
     pub len: usize,
@@ -40,7 +40,7 @@ impl Part {
 
 // The act that a request asks: its number is the service byte, 0 for none, and as many of the three parts as are counted are its arguments.
 #[repr(C)]
-#[derive(Drop)]
+#[derive(Clone, Copy)]
 pub struct Act {
     pub a: Part,
     pub b: Part,
@@ -64,7 +64,7 @@ impl Act {
 }
 
 // What a service answers before its act's outcome is known: refused, or the act that it asks. So a question is answered.
-#[derive(Drop)]
+#[derive(Clone, Copy)]
 pub enum Ask {
     Refused(u8),
     Asks(Act),
@@ -72,7 +72,7 @@ pub enum Ask {
 
 // What a service answers that changes nothing: the reply, which stands in the free place of the room, and the act.
 #[repr(C)]
-#[derive(Drop)]
+#[derive(Clone, Copy)]
 pub struct Spoken {
     pub reply: Reply,
     pub act: Act,
@@ -80,7 +80,7 @@ pub struct Spoken {
 
 // What a service answers that changes something.
 #[repr(C)]
-#[derive(Drop)]
+#[derive(Clone, Copy)]
 pub struct Wanted {
     pub effect: Effect,
     pub act: Act,

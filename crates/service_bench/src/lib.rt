@@ -30,7 +30,7 @@ use uds::clock::Instant;
 // A reply by number: 0 says nothing, 1 a payload of n bytes, 2 the code n under the rule of functional requests, 3 the code n however it was
 // addressed, 4 that the request is pending.
 #[repr(C)]
-#[derive(Drop)]
+#[derive(Clone, Copy)]
 pub struct Said {
     pub n: usize,
     pub kind: u8,
@@ -38,7 +38,7 @@ pub struct Said {
 
 // What a service answers that changes nothing.
 #[repr(C)]
-#[derive(Drop)]
+#[derive(Clone, Copy)]
 pub struct ToldSpoken {
     pub reply: Said,
     pub act: Act,
@@ -46,7 +46,7 @@ pub struct ToldSpoken {
 
 // What a service answers that changes something.
 #[repr(C)]
-#[derive(Drop)]
+#[derive(Clone, Copy)]
 pub struct ToldWanted {
     pub reply: Said,
     pub act: Act,

@@ -14,7 +14,7 @@ use uds::result::DONE;
 // What a service wants: the numbers that it may change, the reply, whether the seed is cleared, and whether the change waits until the reply is
 // queued. What 27 does to the security record, and 2A to the subscriptions, stands in the lent words when it answers; neither waits.
 #[repr(C)]
-#[derive(Drop)]
+#[derive(Clone, Copy)]
 pub struct Effect {
     pub reply: Reply,
     pub session: u8,
@@ -25,7 +25,7 @@ pub struct Effect {
 }
 
 #[repr(C)]
-#[derive(Drop)]
+#[derive(Clone, Copy)]
 pub struct Answer {
     pub state: State,
     pub result: u8,
@@ -33,7 +33,7 @@ pub struct Answer {
 
 // What a reply leaves: the pending request, how many frames wait, and the result.
 #[repr(C)]
-#[derive(Drop)]
+#[derive(Clone, Copy)]
 pub struct Said {
     pub pending: PendingRequest,
     pub frames: u8,

@@ -16,7 +16,7 @@ use uds::clock::Instant;
 
 // The session, the held security level, and when the last request came.
 #[repr(C)]
-#[derive(Drop)]
+#[derive(Clone, Copy)]
 pub struct SessionState {
     pub last_rx: Instant,
     pub session_type: u8,
@@ -47,7 +47,7 @@ impl SessionState {
 
 // A request that was answered 0x78, if one was: whom to answer, for which service, and when 0x78 is due again.
 #[repr(C)]
-#[derive(Drop)]
+#[derive(Clone, Copy)]
 pub struct PendingRequest {
     pub deadline: Instant,
     pub dst: u32,
@@ -71,7 +71,7 @@ impl PendingRequest {
 
 // Forty bytes. How many subscriptions stand and how many frames wait is counted here; they themselves are lent.
 #[repr(C)]
-#[derive(Drop)]
+#[derive(Clone, Copy)]
 pub struct State {
     pub session: SessionState,
     pub pending: PendingRequest,

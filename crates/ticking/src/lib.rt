@@ -28,7 +28,7 @@ const MAX_FRAME: usize = 256;
 
 // What the due subscriptions leave: how many frames wait, the result, and the error byte that comes with 8.
 #[repr(C)]
-#[derive(Drop)]
+#[derive(Clone, Copy)]
 pub struct Sent {
     pub frames: u8,
     pub result: u8,

@@ -26,7 +26,7 @@ const FAST: u8 = 3;
 const STOP: u8 = 4;
 
 // One identifier: registered, with so many subscriptions then; or there was no room; or it is not readable.
-#[derive(Drop)]
+#[derive(Clone, Copy)]
 enum Registering {
     Stands(u8),
     Full,
@@ -34,7 +34,7 @@ enum Registering {
 }
 
 // What is said, and how many subscriptions stand then.
-#[derive(Drop)]
+#[derive(Clone, Copy)]
 struct Scheduled {
     reply: Reply,
     count: u8,

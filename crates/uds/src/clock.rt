@@ -7,12 +7,12 @@ ghost use Rattle.uds.specs.Clock.{later, larger};
 
 // A moment: milliseconds since the clock's zero.
 #[repr(C)]
-#[derive(Drop)]
+#[derive(Clone, Copy)]
 pub struct Instant(pub u64);
 
 // A span: milliseconds between two moments.
 #[repr(C)]
-#[derive(Drop)]
+#[derive(Clone, Copy)]
 pub struct Duration(pub u64);
 
 impl Instant {

@@ -89,7 +89,7 @@ pub fn word(payload: &[u8], at: usize) -> u16
 }
 
 // A number's low 16 bits as two bytes, high byte first.
-#[derive(Drop)]
+#[derive(Clone, Copy)]
 pub struct TwoBytes(pub u8, pub u8);
 
 pub fn two_bytes(n: u64) -> TwoBytes

@@ -7,7 +7,7 @@ ghost use Rattle.model.specs.Service2A.{rate_of};
 use super::clock::Duration;
 
 // A negative response code.
-#[derive(Drop)]
+#[derive(Clone, Copy)]
 pub struct Nrc(pub u8);
 
 impl Nrc {
@@ -75,7 +75,7 @@ impl Nrc {
 }
 
 // A transmission mode of periodic reading.
-#[derive(Drop)]
+#[derive(Clone, Copy)]
 pub struct Rate(pub u8);
 
 impl Rate {

@@ -15,7 +15,7 @@ pub const MAX_SEED: u32 = 32;
 
 // A list of sessions. It holds the first eight, and 0 where there are fewer: of a longer one the count tells, and no configuration
 // that keeps the numbers takes it.
-#[derive(Drop)]
+#[derive(Clone, Copy)]
 pub struct SessionList {
     pub sessions: [u8; 8],
     pub count: usize,
@@ -47,7 +47,7 @@ impl SessionList {
     }
 }
 
-#[derive(Drop)]
+#[derive(Clone, Copy)]
 pub struct SessionConfig {
     pub session_type: u8,
     pub p2_timeout: Duration,
@@ -106,7 +106,7 @@ impl SessionConfig {
 }
 
 // The Rust's `security_level` of a service is kept in the record; no rule reads it, and the image has no word for it.
-#[derive(Drop)]
+#[derive(Clone, Copy)]
 pub struct ServiceConfig {
     pub service_id: u8,
     pub supported_in: SessionList,
@@ -143,7 +143,7 @@ impl ServiceConfig {
 }
 
 // The Rust's `periodic` of an identifier is kept in the record; no rule reads it, and the image has no word for it.
-#[derive(Drop)]
+#[derive(Clone, Copy)]
 pub struct DidConfig {
     pub identifier: u16,
     pub readable_in: SessionList,
@@ -211,7 +211,7 @@ impl DidConfig {
     }
 }
 
-#[derive(Drop)]
+#[derive(Clone, Copy)]
 pub struct SecurityLevelConfig {
     pub level: u8,
     pub max_attempts: u8,

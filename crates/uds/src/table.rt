@@ -6,7 +6,7 @@ ghost use Rattle.uds.specs.Table.{column, key_place, place_of, examined_of, InWo
 const FEW: usize = 0x1_0000_0000;
 
 // What a lookup answers: the number of the first row that has the key, counted from 0.
-#[derive(Drop)]
+#[derive(Clone, Copy)]
 pub enum Found {
     At(usize),
     Nothing,

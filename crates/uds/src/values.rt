@@ -25,7 +25,7 @@ const OUTSIDE: u8 = Nrc::CONDITIONS_NOT_CORRECT;
 const TOO_LONG: u8 = Nrc::CONDITIONS_NOT_CORRECT;
 
 // What the table says of an identifier: bytes, by their place in the pool, or an error byte.
-#[derive(Drop)]
+#[derive(Clone, Copy)]
 pub enum Outcome {
     Bytes { start: usize, len: usize },
     Error(u8),

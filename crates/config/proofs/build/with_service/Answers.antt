@@ -1,0 +1,10 @@
+-- The row's words, and whether it keeps the numbers, are the definition's.
+use Rattle.std.proofs.Common.{length, rules, ◌≡◌}
+use Rattle.config.proofs.Building.{service_made}
+use Rattle.config.proofs.build.with_service.Goals as goal
+
+pub returns : goal.returns
+returns c =
+    let a = c.args in
+    let l : length a.config ≡ 3006 = search rules in
+    service_made a.config c.with_row.result c.service_row-row.result c.within.result l a.s c.service_row-row.ensures c.within.ensures c.with_row.ensures
