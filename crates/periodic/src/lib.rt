@@ -1,6 +1,7 @@
 // The subscription table of service 2A: which identifier is sent to which client, how often, and when next. The table is lent as
 // words, and how many entries stand goes beside it by value. Every promise is an equation to the definition in the crate `model`.
 #![tactic(auto)]
+
 ghost use Rattle.std.specs.Prelude.{◌≡◌, ℕ, ◌<◌, List, length};
 ghost use Rattle.model.specs.Tests.{place};
 ghost use Rattle.model.specs.Numbers.{max_periodic};

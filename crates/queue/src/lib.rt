@@ -1,5 +1,6 @@
 // The waiting frames: where they lie, and how a reply is made where it will wait.
 #![tactic(auto)]
+
 ghost use Rattle.std.specs.Prelude.{◌≡◌, ◌+◌, ◌≤◌, length};
 ghost use Rattle.queue.specs.View.{place_of};
 ghost use Rattle.queue.specs.Over.{over};
