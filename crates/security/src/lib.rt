@@ -3,6 +3,7 @@
 // from 36 on eight counts (level, refused keys), from 52 on eight locks (level, until). Every promise is an equation to the definition
 // in the crate `model`.
 #![tactic(auto)]
+
 ghost use Rattle.std.specs.Prelude.{◌≡◌, ◌+◌, ◌≤◌, ◌<◌, min, false, [], length};
 ghost use Rattle.model.specs.Tests.{all};
 ghost use Rattle.model.specs.Numbers.{max_seed};
