@@ -1,5 +1,6 @@
 // The fixed configuration of `udstrace`, made by the builders.
 #![tactic(auto)]
+
 ghost use Rattle.std.specs.Prelude.{◌≡◌};
 ghost use Rattle.model.specs.Fixed.{fixed_session, fixed_did, fixed_config};
 ghost use Rattle.config.specs.View.{config_of};

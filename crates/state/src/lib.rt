@@ -1,6 +1,7 @@
 // What a server holds by value: the session, the pending request, how the last request was addressed, and how much there is of what is lent
 // beside it. The configuration, the security record, the subscriptions and the waiting frames are lent.
 #![tactic(auto)]
+
 ghost use Rattle.std.specs.Prelude.{◌≡◌, List, ℕ};
 ghost use Rattle.std.proofs.Math.Option.{none};
 ghost use Rattle.model.specs.State as Model;
