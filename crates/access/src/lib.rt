@@ -1,3 +1,4 @@
 // Access: 27.
 #![tactic(auto)]
+
 pub mod service27;

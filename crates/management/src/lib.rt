@@ -1,5 +1,6 @@
 // Sessions and communication: 3E, 10, 11, 28.
 #![tactic(auto)]
+
 ghost use Rattle.std.specs.Prelude.{[], ◌∷◌};
 ghost use Rattle.model.specs.Frame.{suppressed, sub_function};
 ghost use Rattle.service.specs.Act.{acted_reply};

@@ -1,5 +1,6 @@
 // What all services share: the act that one may ask and what was handed in for it, a reply with nothing changed, a reply made of two parts.
 #![tactic(auto)]
+
 ghost use Rattle.std.specs.Prelude.{◌≡◌, ℕ, List, ◌++◌, take};
 ghost use Rattle.model.specs.Values as Values;
 ghost use Rattle.model.specs.Queue.{positive};
