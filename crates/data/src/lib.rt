@@ -1,4 +1,5 @@
 // Data by identifier, read and written: 22, 2E.
 #![tactic(auto)]
+
 pub mod service22;
 pub mod service2E;

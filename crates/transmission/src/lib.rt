@@ -1,3 +1,4 @@
 // Periodic transmission: 2A.
 #![tactic(auto)]
+
 pub mod service2A;
