@@ -1,6 +1,7 @@
 -- Nothing else meets the promises: two lines that meet one say the same. Each public function by its contract.
 use mathlib.Core.Path.{◌≡◌, sym, ◌∙◌}
-use Rattle.uds.proofs.Promise.{Settles, Answer}
+use Rattle.std.specs.Prelude.{ℕ, Result, Ok, IfOk, length, ◌+◌}
+use Rattle.uds.proofs.Promise.{Settles}
 use Rattle.lines.specs.declared.Line.{Line}
 use Rattle.lines.specs.View.{text_of}
 use Rattle.lines.proofs.Line.new.Reads as new
@@ -15,6 +16,10 @@ use Rattle.lines.proofs.Line.print.Reads as print
 -- what a line says; not the bytes past its length
 abbrev SameText : {S : Type 0} → Line → S → Line → S → Type 0
 SameText x e y f = text_of x ≡ text_of y
+
+-- how many bytes were handed over; an error of a write says nothing of them
+abbrev SameCount : {S E : Type 0} → Result ℕ E → S → Result ℕ E → S → Type 0
+SameCount x e y f = (m n : ℕ) → x ≡ Ok m → y ≡ Ok n → m ≡ n
 
 pub new_settled : (κs : _) (a : _) → Settles (new.Post κs a) SameText
 new_settled κs a x e y f p q = p ∙ sym q
@@ -37,5 +42,5 @@ hex_settled κs a x e y f p q = p ∙ sym q
 pub lower-hex_settled : (κs : _) (a : _) → Settles (lower-hex.Post κs a) SameText
 lower-hex_settled κs a x e y f p q = p ∙ sym q
 
-pub print_settled : (κs : _) (a : _) → Settles (print.Post κs a) Answer
-print_settled κs a x e y f p q = p ∙ sym q
+pub print_settled : (κs : _) (a : _) (g : _) (d : _) (h : _) (o : _) → Settles (print.Post κs a g d h o) SameCount
+print_settled κs a g d h o x e y f p q m n i j = (rw i at p) ∙ sym (rw j at q)

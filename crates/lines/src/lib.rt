@@ -1,12 +1,13 @@
 // Lines of text: words, decimal numbers and bytes in hex, put one behind the other into a line by value, and written out. A line has room
 // for 640 bytes and what is past them is cut: by promise, and not by the programs. What no contract can say is what is written.
 #![tactic(auto)]
-ghost use Rattle.std.specs.Prelude.{◌≡◌, [], ◌++◌, ◌+◌, ◌≤◌, ◌<◌, length, take};
+
+ghost use Rattle.std.specs.Prelude.{◌≡◌, [], ◌++◌, ◌+◌, ◌≤◌, ◌<◌, length, take, IfOk};
 ghost use Rattle.model.specs.Text.{upper, lower, hex, decimal};
 ghost use Rattle.model.specs.Text.{digit as digitOf};
 ghost use Rattle.lines.specs.View.{text_of, appended, gap, flag_of};
 
-use libc::STDOUT_FILENO;
+use std::io::Result;
 
 const UPPER: u8 = 55;
 
@@ -42,14 +43,15 @@ fn size(bytes: &[u8], n: usize) -> usize
     if n < bytes.len() { n } else { bytes.len() }
 }
 
-// The first `n` bytes, or all, and a line end, to standard output; how many bytes that is.
-fn write(bytes: &[u8], n: usize) -> usize
-    ensures { result ≡ length (take n bytes.now) + 1 }
+// The first `n` bytes, or all, and a line end, to standard output; how many bytes that is. An error is that of a write: then some of the
+// bytes may have been written, and the bytes and `n` are as they were.
+fn write<R: Print>(rt: &R, bytes: &[u8], n: usize) -> Result<usize>
+    ensures { IfOk result (λ k. k ≡ length (take n bytes.now) + 1) }
 {
     let end = size(bytes, n);
-    io::write_all(STDOUT_FILENO, &bytes[0..end]);
-    io::write_all(STDOUT_FILENO, b"\n");
-    end + 1
+    rt.write_all(&bytes[0..end])?;
+    rt.write_all(b"\n")?;
+    Ok(end + 1)
 }
 
 // A digit below 16.
@@ -147,12 +149,13 @@ impl Line {
         self.digits(bytes, LOWER)
     }
 
-    // Writes the line and a line end to standard output; how many bytes it hands over, which is all that a contract can say of it.
-    pub fn print(self) -> usize
-        ensures { result ≡ length (text_of self) + 1 }
+    // Writes the line and a line end to standard output; how many bytes it hands over, which is all that a contract can say of it. The only
+    // error is that of a write; then a part of the line may have been written.
+    pub fn print<R: Print>(self, rt: &R) -> Result<usize>
+        ensures { IfOk result (λ k. k ≡ length (text_of self) + 1) }
     {
         let bytes = self.bytes;
         let n = self.len;
-        write(&bytes, n)
+        write(rt, &bytes, n)
     }
 }
