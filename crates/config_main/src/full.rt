@@ -3,6 +3,7 @@
 use super::show;
 use super::show::{flag, value};
 use config::{Config, build};
+use std::io;
 use uds::clock::Duration;
 use uds::rows::{DidConfig, SecurityLevelConfig, ServiceConfig, SessionConfig};
 
@@ -77,78 +78,88 @@ fn levels(mut c: Config) -> Config {
 }
 
 // The first row's key, the last row's, the one that is there twice, the one that is missing.
-fn rows(c: &Config) {
-    show::session(c, 0);
-    show::session(c, 7);
-    show::session(c, 1);
-    show::session(c, 5);
-    show::service(c, 0);
-    show::service(c, 23);
-    show::service(c, 1);
-    show::service(c, 20);
+fn rows(rt: &impl Print, c: &Config) -> io::Result<()> {
+    show::session(rt, c, 0)?;
+    show::session(rt, c, 7)?;
+    show::session(rt, c, 1)?;
+    show::session(rt, c, 5)?;
+    show::service(rt, c, 0)?;
+    show::service(rt, c, 23)?;
+    show::service(rt, c, 1)?;
+    show::service(rt, c, 20)?;
+    Ok(())
 }
 
-fn more_rows(c: &Config) {
-    show::did(c, 0);
-    show::did(c, 127);
-    show::did(c, 1);
-    show::did(c, 100);
-    show::level(c, 0);
-    show::level(c, 7);
-    show::level(c, 1);
-    show::level(c, 6);
+fn more_rows(rt: &impl Print, c: &Config) -> io::Result<()> {
+    show::did(rt, c, 0)?;
+    show::did(rt, c, 127)?;
+    show::did(rt, c, 1)?;
+    show::did(rt, c, 100)?;
+    show::level(rt, c, 0)?;
+    show::level(rt, c, 7)?;
+    show::level(rt, c, 1)?;
+    show::level(rt, c, 6)?;
+    Ok(())
 }
 
 // What the last rows say, and the last entry of a list.
-fn last(c: &Config) {
+fn last(rt: &impl Print, c: &Config) -> io::Result<()> {
     let s = config::p2(c, config::find_session(c, 7));
-    value(b"P2 of session 7", s.0);
+    value(rt, b"P2 of session 7", s.0)?;
     let t = config::s3(c, config::find_session(c, 5));
-    value(b"S3 of no session", t.0);
+    value(rt, b"S3 of no session", t.0)?;
     value(
+        rt,
         b"attempts of level 7",
         config::max_attempts(c, config::find_security_level(c, 7)) as u64,
-    );
+    )?;
     flag(
+        rt,
         b"identifier 127 read in session 8",
         config::did_readable(c, 127, 8),
-    );
+    )?;
     flag(
+        rt,
         b"identifier 127 written in session 9",
         config::did_writable(c, 127, 9),
-    );
+    )?;
     flag(
+        rt,
         b"service 23 in session 8",
         config::service_allowed(c, 23, 8),
-    );
+    )?;
+    Ok(())
 }
 
 // One more than there is room for.
-fn past(c: Config) {
+fn past(rt: &impl Print, c: Config) -> io::Result<()> {
     let d = build::with_session(c, SessionConfig::default_session());
-    flag(b"a ninth session", config::within(&d));
+    flag(rt, b"a ninth session", config::within(&d))?;
     let e = build::with_service(c, ServiceConfig::new(99, b"\x01"));
-    flag(b"a 25th service", config::within(&e));
+    flag(rt, b"a 25th service", config::within(&e))?;
     let f = build::with_did(c, DidConfig::read_only(999, b"\x01"));
-    flag(b"a 129th identifier", config::within(&f));
+    flag(rt, b"a 129th identifier", config::within(&f))?;
+    Ok(())
 }
 
 // Rows that do not keep the numbers.
-fn outside() {
+fn outside(rt: &impl Print) -> io::Result<()> {
     let c = build::new(1, 2);
     let d = build::with_service(c, ServiceConfig::new(1, b"123456789"));
-    flag(b"a list of nine", config::within(&d));
+    flag(rt, b"a list of nine", config::within(&d))?;
     let long = DidConfig::read_only(1, b"\x01").periodic(Duration(0x1_0000_0000));
     let e = build::with_did(c, long);
-    flag(b"an interval of 2^32", config::within(&e));
+    flag(rt, b"an interval of 2^32", config::within(&e))?;
+    Ok(())
 }
 
-pub(crate) fn run() {
+pub(crate) fn run(rt: &impl Print) -> io::Result<()> {
     let c = levels(dids(services(sessions(build::new(1, 2)))));
-    flag(b"full: within", config::within(&c));
-    rows(&c);
-    more_rows(&c);
-    last(&c);
-    past(c);
-    outside();
+    flag(rt, b"full: within", config::within(&c))?;
+    rows(rt, &c)?;
+    more_rows(rt, &c)?;
+    last(rt, &c)?;
+    past(rt, c)?;
+    outside(rt)?;
+    Ok(())
 }

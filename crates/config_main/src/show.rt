@@ -1,15 +1,17 @@
 // What the test writes.
 use config::Config;
 use lines::Line;
+use std::io;
 use uds::table::{Found, examined};
 
 // What was looked up, its key, the row, and the rows examined.
-fn line(what: &[u8], key: u64, found: Found, rows: usize) {
+fn line(rt: &impl Print, what: &[u8], key: u64, found: Found, rows: usize) -> io::Result<()> {
     row(Line::new().text(what).number(key).text(b":"), found)
         .text(b",")
         .number(examined(found, rows) as u64)
         .text(b" examined")
-        .print();
+        .print(rt)?;
+    Ok(())
 }
 
 fn row(line: Line, found: Found) -> Line {
@@ -19,50 +21,60 @@ fn row(line: Line, found: Found) -> Line {
     line.number(i as u64)
 }
 
-pub(crate) fn session(c: &Config, key: u8) {
+pub(crate) fn session(rt: &impl Print, c: &Config, key: u8) -> io::Result<()> {
     line(
+        rt,
         b"session",
         key as u64,
         config::find_session(c, key),
         config::session_count(c),
-    );
+    )?;
+    Ok(())
 }
 
-pub(crate) fn service(c: &Config, key: u8) {
+pub(crate) fn service(rt: &impl Print, c: &Config, key: u8) -> io::Result<()> {
     line(
+        rt,
         b"service",
         key as u64,
         config::find_service(c, key),
         config::service_count(c),
-    );
+    )?;
+    Ok(())
 }
 
-pub(crate) fn did(c: &Config, key: u16) {
+pub(crate) fn did(rt: &impl Print, c: &Config, key: u16) -> io::Result<()> {
     line(
+        rt,
         b"identifier",
         key as u64,
         config::find_did(c, key),
         config::did_count(c),
-    );
+    )?;
+    Ok(())
 }
 
-pub(crate) fn level(c: &Config, key: u8) {
+pub(crate) fn level(rt: &impl Print, c: &Config, key: u8) -> io::Result<()> {
     line(
+        rt,
         b"level",
         key as u64,
         config::find_security_level(c, key),
         config::security_level_count(c),
-    );
+    )?;
+    Ok(())
 }
 
-pub(crate) fn flag(what: &[u8], yes: bool) {
+pub(crate) fn flag(rt: &impl Print, what: &[u8], yes: bool) -> io::Result<()> {
     if yes {
-        Line::new().text(what).text(b": yes").print();
+        Line::new().text(what).text(b": yes").print(rt)?;
     } else {
-        Line::new().text(what).text(b": no").print();
+        Line::new().text(what).text(b": no").print(rt)?;
     }
+    Ok(())
 }
 
-pub(crate) fn value(what: &[u8], n: u64) {
-    Line::new().text(what).text(b":").number(n).print();
+pub(crate) fn value(rt: &impl Print, what: &[u8], n: u64) -> io::Result<()> {
+    Line::new().text(what).text(b":").number(n).print(rt)?;
+    Ok(())
 }

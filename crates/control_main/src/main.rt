@@ -1,10 +1,12 @@
 // Runs 2F and 31 at the edges of their payloads and of what is handed in for their acts. Of each request two lines: what a question is told, and the act and
 // the reply.
 #![tactic(auto)]
+
 use lines::Line;
 use queue::Room;
 use queue::reply::Reply;
 use service::{Act, Ask, Part, Spoken};
+use std::io;
 
 fn part(line: Line, part: Part) -> Line {
     line.number(part.start as u64).number(part.len as u64)
@@ -45,98 +47,108 @@ fn reply(line: Line, reply: Reply, room: &Room) -> Line {
 }
 
 // The answer to a question.
-fn asked(ask: Ask) {
+fn asked(rt: &impl Print, ask: Ask) -> io::Result<()> {
     let line = match ask {
         Ask::Refused(code) => Line::new().word(b"refused").hex(&[code]),
         Ask::Asks(asks) => act(Line::new().word(b"asks"), asks),
     };
-    line.print();
+    line.print(rt)?;
+    Ok(())
 }
 
 // The answer to a request.
-fn spoken(spoken: Spoken, room: &Room) {
+fn spoken(rt: &impl Print, spoken: Spoken, room: &Room) -> io::Result<()> {
     let acts = spoken.act;
     let says = spoken.reply;
-    reply(act(Line::new(), acts), says, room).print();
+    reply(act(Line::new(), acts), says, room).print(rt)?;
+    Ok(())
 }
 
 // Two lines: what is asked, and the answer.
-fn run2F(payload: &[u8], err: u8, given: &[u8]) {
+fn run2F(rt: &impl Print, payload: &[u8], err: u8, given: &[u8]) -> io::Result<()> {
     let mut room = [0u8; 4353];
-    asked(control::service2F::ask2F(payload));
+    asked(rt, control::service2F::ask2F(payload))?;
     let answer = control::service2F::service2F(0, payload, err, given, &mut room);
-    spoken(answer, &room);
+    spoken(rt, answer, &room)?;
+    Ok(())
 }
 
 // Two lines: what is asked, and the answer.
-fn run31(payload: &[u8], err: u8, given: &[u8]) {
+fn run31(rt: &impl Print, payload: &[u8], err: u8, given: &[u8]) -> io::Result<()> {
     let mut room = [0u8; 4353];
-    asked(control::service31::ask31(payload));
+    asked(rt, control::service31::ask31(payload))?;
     let answer = control::service31::service31(0, payload, err, given, &mut room);
-    spoken(answer, &room);
+    spoken(rt, answer, &room)?;
+    Ok(())
 }
 
 // Short payloads, no state, a state, the longest.
-fn payloads2F() {
+fn payloads2F(rt: &impl Print) -> io::Result<()> {
     let long = [0x07u8; 4094];
-    run2F(&[], 0, &[]);
-    run2F(&[0xF1, 0x90], 0, &[]);
-    run2F(&[0xF1, 0x90, 0x03], 0, &[]);
-    run2F(&[0xF1, 0x90, 0x03, 0xAA, 0xBB], 0, &[0xAA, 0xBB]);
-    run2F(&long[..4094], 0, &[0x01]);
+    run2F(rt, &[], 0, &[])?;
+    run2F(rt, &[0xF1, 0x90], 0, &[])?;
+    run2F(rt, &[0xF1, 0x90, 0x03], 0, &[])?;
+    run2F(rt, &[0xF1, 0x90, 0x03, 0xAA, 0xBB], 0, &[0xAA, 0xBB])?;
+    run2F(rt, &long[..4094], 0, &[0x01])?;
+    Ok(())
 }
 
 // Acts that fill a reply, that are a byte over, of 256 and 257 bytes, errors, a pending one.
-fn acts2F() {
+fn acts2F(rt: &impl Print) -> io::Result<()> {
     let bytes = [0x5Au8; 257];
-    run2F(&[0x12, 0x34, 0x00], 0, &bytes[..254]);
-    run2F(&[0x12, 0x34, 0x00], 0, &bytes[..255]);
-    run2F(&[0x12, 0x34, 0x00], 0, &bytes[..256]);
-    run2F(&[0x12, 0x34, 0x00], 0, &bytes[..257]);
-    run2F(&[0x12, 0x34, 0x00], 0x31, &[]);
-    run2F(&[0x12, 0x34, 0x00], 0x33, &bytes[..257]);
-    run2F(&[0x12, 0x34, 0x00], 0x78, &[]);
+    run2F(rt, &[0x12, 0x34, 0x00], 0, &bytes[..254])?;
+    run2F(rt, &[0x12, 0x34, 0x00], 0, &bytes[..255])?;
+    run2F(rt, &[0x12, 0x34, 0x00], 0, &bytes[..256])?;
+    run2F(rt, &[0x12, 0x34, 0x00], 0, &bytes[..257])?;
+    run2F(rt, &[0x12, 0x34, 0x00], 0x31, &[])?;
+    run2F(rt, &[0x12, 0x34, 0x00], 0x33, &bytes[..257])?;
+    run2F(rt, &[0x12, 0x34, 0x00], 0x78, &[])?;
+    Ok(())
 }
 
 // Short payloads, no option, an option, sub-functions suppressed or not, the longest.
-fn payloads31() {
+fn payloads31(rt: &impl Print) -> io::Result<()> {
     let long = [0x07u8; 4094];
-    run31(&[], 0, &[]);
-    run31(&[0x01, 0x02], 0, &[]);
-    run31(&[0x81, 0x02], 0, &[]);
-    run31(&[0x01, 0x02, 0x03], 0, &[]);
-    run31(&[0x7F, 0xFF, 0x00, 0xAA], 0, &[0xBB]);
-    run31(&[0x81, 0x02, 0x03], 0, &[]);
-    run31(&[0xFF, 0x02, 0x03, 0x04], 0, &[0x01]);
-    run31(&[0x80, 0x02, 0x03], 0, &[]);
-    run31(&long[..4094], 0, &[0x01]);
+    run31(rt, &[], 0, &[])?;
+    run31(rt, &[0x01, 0x02], 0, &[])?;
+    run31(rt, &[0x81, 0x02], 0, &[])?;
+    run31(rt, &[0x01, 0x02, 0x03], 0, &[])?;
+    run31(rt, &[0x7F, 0xFF, 0x00, 0xAA], 0, &[0xBB])?;
+    run31(rt, &[0x81, 0x02, 0x03], 0, &[])?;
+    run31(rt, &[0xFF, 0x02, 0x03, 0x04], 0, &[0x01])?;
+    run31(rt, &[0x80, 0x02, 0x03], 0, &[])?;
+    run31(rt, &long[..4094], 0, &[0x01])?;
+    Ok(())
 }
 
 // Acts that fill a reply, that are a byte over, of 256 and 257 bytes, errors, a pending one.
-fn acts31() {
+fn acts31(rt: &impl Print) -> io::Result<()> {
     let bytes = [0x5Au8; 257];
-    run31(&[0x01, 0xAB, 0xCD], 0, &bytes[..253]);
-    run31(&[0x01, 0xAB, 0xCD], 0, &bytes[..254]);
-    run31(&[0x01, 0xAB, 0xCD], 0, &bytes[..256]);
-    run31(&[0x01, 0xAB, 0xCD], 0, &bytes[..257]);
-    run31(&[0x01, 0xAB, 0xCD], 0x31, &[]);
-    run31(&[0x01, 0xAB, 0xCD], 0x78, &[]);
+    run31(rt, &[0x01, 0xAB, 0xCD], 0, &bytes[..253])?;
+    run31(rt, &[0x01, 0xAB, 0xCD], 0, &bytes[..254])?;
+    run31(rt, &[0x01, 0xAB, 0xCD], 0, &bytes[..256])?;
+    run31(rt, &[0x01, 0xAB, 0xCD], 0, &bytes[..257])?;
+    run31(rt, &[0x01, 0xAB, 0xCD], 0x31, &[])?;
+    run31(rt, &[0x01, 0xAB, 0xCD], 0x78, &[])?;
+    Ok(())
 }
 
 // The same, suppressed.
-fn suppressed31() {
+fn suppressed31(rt: &impl Print) -> io::Result<()> {
     let bytes = [0x5Au8; 257];
-    run31(&[0x81, 0xAB, 0xCD], 0, &bytes[..253]);
-    run31(&[0x81, 0xAB, 0xCD], 0, &bytes[..254]);
-    run31(&[0x81, 0xAB, 0xCD], 0, &bytes[..257]);
-    run31(&[0x81, 0xAB, 0xCD], 0x31, &[]);
-    run31(&[0x81, 0xAB, 0xCD], 0x78, &[]);
+    run31(rt, &[0x81, 0xAB, 0xCD], 0, &bytes[..253])?;
+    run31(rt, &[0x81, 0xAB, 0xCD], 0, &bytes[..254])?;
+    run31(rt, &[0x81, 0xAB, 0xCD], 0, &bytes[..257])?;
+    run31(rt, &[0x81, 0xAB, 0xCD], 0x31, &[])?;
+    run31(rt, &[0x81, 0xAB, 0xCD], 0x78, &[])?;
+    Ok(())
 }
 
-fn main() {
-    payloads2F();
-    acts2F();
-    payloads31();
-    acts31();
-    suppressed31();
+fn main(rt: HostRuntime) -> io::Result<()> {
+    payloads2F(&rt)?;
+    acts2F(&rt)?;
+    payloads31(&rt)?;
+    acts31(&rt)?;
+    suppressed31(&rt)?;
+    Ok(())
 }

@@ -1,5 +1,6 @@
 // The fourteen services behind one function, and the rules that come right before them: no service row, the session not in its list.
 #![tactic(auto)]
+
 ghost use Rattle.std.specs.Prelude.{◌≡◌};
 ghost use Rattle.service.specs.Seen.{says_of, Serves};
 ghost use Rattle.dispatch.specs.Rules.{service, guarded};

@@ -1,5 +1,6 @@
 // What the calls test first: whether the state is valid and the time taken, whom a frame is for, and whether its length fits.
 #![tactic(auto)]
+
 ghost use Rattle.std.specs.Prelude.{◌≡◌, false, not};
 ghost use Rattle.model.specs.Tests.{pick};
 ghost use Rattle.model.specs.Request as Model;

@@ -3,6 +3,7 @@
 // many counts there are and the first, how many locks and the first. Replies are in hex, numbers decimal.
 // What it must write was worked out by hand from the rules in docs/PROMISES.md, before the program ran.
 #![tactic(auto)]
+
 mod keys;
 mod sessions;
 
@@ -12,6 +13,7 @@ use queue::Room;
 use queue::reply::Reply;
 use security::Security;
 use service::{Act, Part, Spoken, Wanted};
+use std::io;
 use uds::clock::Duration;
 use uds::rows::{SecurityLevelConfig, SessionConfig};
 
@@ -45,14 +47,15 @@ fn asked(line: Line, act: Act) -> Line {
     placed(placed(parts, a), b)
 }
 
-fn spoken(what: &[u8], s: Spoken, room: &Room) {
+fn spoken(rt: &impl Print, what: &[u8], s: Spoken, room: &Room) -> io::Result<()> {
     let reply = s.reply;
     let act = s.act;
     let line = replied(Line::new().text(what), reply, room);
-    asked(line, act).print();
+    asked(line, act).print(rt)?;
+    Ok(())
 }
 
-fn wanted(what: &[u8], w: Wanted, room: &Room) {
+fn wanted(rt: &impl Print, what: &[u8], w: Wanted, room: &Room) -> io::Result<()> {
     let e = w.effect;
     let reply = e.reply;
     let act = w.act;
@@ -63,10 +66,11 @@ fn wanted(what: &[u8], w: Wanted, room: &Room) {
         .number(e.level as u64)
         .flag(e.clears_seed)
         .flag(e.waits)
-        .print();
+        .print(rt)?;
+    Ok(())
 }
 
-fn words(k: &Security) {
+fn words(rt: &impl Print, k: &Security) -> io::Result<()> {
     Line::new()
         .text(b"  seed")
         .number(k[1])
@@ -79,7 +83,8 @@ fn words(k: &Security) {
         .number(k[3])
         .number(k[52])
         .number(k[53])
-        .print();
+        .print(rt)?;
+    Ok(())
 }
 
 fn level(level: u8, max_attempts: u8, seed_length: usize) -> SecurityLevelConfig {
@@ -106,8 +111,9 @@ fn configuration() -> Config {
     build::with_security_level(three, level(5, 255, 4))
 }
 
-fn main() {
+fn main(rt: HostRuntime) -> io::Result<()> {
     let c = configuration();
-    sessions::run(&c);
-    keys::run(&c);
+    sessions::run(&rt, &c)?;
+    keys::run(&rt, &c)?;
+    Ok(())
 }

@@ -2,38 +2,41 @@
 // line says what is asked, and the answer: how many entries stand, `full`, the number of the entry found or `-`, 1 for yes and 0 for no. What it must
 // write was worked out by hand from the rules in docs/PROMISES.md, before the program ran.
 #![tactic(auto)]
+
 mod edges;
 mod show;
 
 use lines::Line;
 use periodic::{PeriodicState, Subscriptions};
 use show::{cancel, entry, find, register};
+use std::io;
 use uds::clock::{Duration, Instant};
 
 // Two clients and two identifiers at 100; the second renewed at 300; the first cancelled, so that the others move up in their order.
-fn several() {
+fn several(rt: &impl Print) -> io::Result<()> {
     let mut subs = [0u64; 64];
     let fresh = PeriodicState::new().count;
-    Line::new().text(b"fresh:").number(fresh as u64).print();
-    let one = register(b"registered:", &mut subs, fresh, 61953, 3712, 2000, 100);
-    let two = register(b"registered:", &mut subs, one, 61953, 3713, 500, 100);
-    let three = register(b"registered:", &mut subs, two, 61954, 3712, 50, 100);
-    entry(&subs, 0);
-    entry(&subs, 1);
-    entry(&subs, 2);
-    register(b"renewed:", &mut subs, three, 61953, 3713, 2000, 300);
-    entry(&subs, 1);
-    find(b"found:", &subs, three, 61953, 3713);
-    find(b"another client:", &subs, three, 61953, 3714);
-    find(b"not standing:", &subs, 2, 61954, 3712);
-    let left = cancel(b"cancelled:", &mut subs, three, 61953, 3712);
-    entry(&subs, 0);
-    entry(&subs, 1);
-    cancel(b"not there:", &mut subs, left, 61955, 3712);
+    Line::new().text(b"fresh:").number(fresh as u64).print(rt)?;
+    let one = register(rt, b"registered:", &mut subs, fresh, 61953, 3712, 2000, 100)?;
+    let two = register(rt, b"registered:", &mut subs, one, 61953, 3713, 500, 100)?;
+    let three = register(rt, b"registered:", &mut subs, two, 61954, 3712, 50, 100)?;
+    entry(rt, &subs, 0)?;
+    entry(rt, &subs, 1)?;
+    entry(rt, &subs, 2)?;
+    register(rt, b"renewed:", &mut subs, three, 61953, 3713, 2000, 300)?;
+    entry(rt, &subs, 1)?;
+    find(rt, b"found:", &subs, three, 61953, 3713)?;
+    find(rt, b"another client:", &subs, three, 61953, 3714)?;
+    find(rt, b"not standing:", &subs, 2, 61954, 3712)?;
+    let left = cancel(rt, b"cancelled:", &mut subs, three, 61953, 3712)?;
+    entry(rt, &subs, 0)?;
+    entry(rt, &subs, 1)?;
+    cancel(rt, b"not there:", &mut subs, left, 61955, 3712)?;
+    Ok(())
 }
 
 // A table handed in that has a subscription twice: the first is renewed, and both are cancelled.
-fn twice() {
+fn twice(rt: &impl Print) -> io::Result<()> {
     let mut subs = [0u64; 64];
     subs[0] = 61953;
     subs[1] = 3712;
@@ -47,12 +50,13 @@ fn twice() {
     subs[9] = 3712;
     subs[10] = 70;
     subs[11] = 300;
-    register(b"twice, renewed:", &mut subs, 3, 61953, 3712, 500, 1000);
-    entry(&subs, 0);
-    entry(&subs, 1);
-    entry(&subs, 2);
-    cancel(b"twice, cancelled:", &mut subs, 3, 61953, 3712);
-    entry(&subs, 0);
+    register(rt, b"twice, renewed:", &mut subs, 3, 61953, 3712, 500, 1000)?;
+    entry(rt, &subs, 0)?;
+    entry(rt, &subs, 1)?;
+    entry(rt, &subs, 2)?;
+    cancel(rt, b"twice, cancelled:", &mut subs, 3, 61953, 3712)?;
+    entry(rt, &subs, 0)?;
+    Ok(())
 }
 
 // Fifteen subscriptions of one client, entry `i` to identifier 61952 plus i and with interval i.
@@ -73,50 +77,53 @@ fn fifteen(subs: &mut Subscriptions) -> u8 {
 }
 
 // The sixteenth has room and a seventeenth has not; what stands is renewed all the same; and one from the middle cancelled.
-fn full() {
+fn full(rt: &impl Print) -> io::Result<()> {
     let mut subs = [0u64; 64];
     let count = fifteen(&mut subs);
-    let most = register(b"sixteenth:", &mut subs, count, 61967, 3712, 15, 1000);
-    register(b"seventeenth:", &mut subs, most, 61968, 3712, 16, 1000);
-    register(b"again:", &mut subs, most, 61952, 3712, 7, 2000);
-    entry(&subs, 0);
-    entry(&subs, 15);
-    cancel(b"cancelled:", &mut subs, most, 61959, 3712);
-    entry(&subs, 6);
-    entry(&subs, 7);
-    entry(&subs, 14);
+    let most = register(rt, b"sixteenth:", &mut subs, count, 61967, 3712, 15, 1000)?;
+    register(rt, b"seventeenth:", &mut subs, most, 61968, 3712, 16, 1000)?;
+    register(rt, b"again:", &mut subs, most, 61952, 3712, 7, 2000)?;
+    entry(rt, &subs, 0)?;
+    entry(rt, &subs, 15)?;
+    cancel(rt, b"cancelled:", &mut subs, most, 61959, 3712)?;
+    entry(rt, &subs, 6)?;
+    entry(rt, &subs, 7)?;
+    entry(rt, &subs, 14)?;
+    Ok(())
 }
 
 // A count that no table has: all is refused, and the seventeenth entry is one of zeros.
-fn past() {
+fn past(rt: &impl Print) -> io::Result<()> {
     let mut subs = [0u64; 64];
     let count = fifteen(&mut subs);
     periodic::register(&mut subs, count, 61967, 3712, Duration(15), Instant(1000));
-    register(b"17, registered:", &mut subs, 17, 61952, 3712, 7, 2000);
-    cancel(b"17, cancelled:", &mut subs, 17, 61952, 3712);
+    register(rt, b"17, registered:", &mut subs, 17, 61952, 3712, 7, 2000)?;
+    cancel(rt, b"17, cancelled:", &mut subs, 17, 61952, 3712)?;
     periodic::advance(&mut subs, 17, 0, Instant(2000));
-    entry(&subs, 0);
+    entry(rt, &subs, 0)?;
     Line::new()
         .text(b"17, due:")
         .flag(periodic::due(&subs, 17, 0, Instant(1000)))
         .flag(periodic::due(&subs, 17, 16, Instant(0)))
         .flag(periodic::due(&subs, 17, 17, Instant(0)))
-        .print();
-    find(b"17, found:", &subs, 17, 0, 0);
+        .print(rt)?;
+    find(rt, b"17, found:", &subs, 17, 0, 0)?;
     Line::new()
         .text(b"16, 17, valid:")
         .flag(periodic::subscriptions_valid(&subs, 16))
         .flag(periodic::subscriptions_valid(&subs, 17))
-        .print();
+        .print(rt)?;
+    Ok(())
 }
 
-fn main() {
-    several();
-    twice();
-    full();
-    edges::due();
-    past();
-    edges::last_moment();
-    edges::valid();
-    edges::wide();
+fn main(rt: HostRuntime) -> io::Result<()> {
+    several(&rt)?;
+    twice(&rt)?;
+    full(&rt)?;
+    edges::due(&rt)?;
+    past(&rt)?;
+    edges::last_moment(&rt)?;
+    edges::valid(&rt)?;
+    edges::wide(&rt)?;
+    Ok(())
 }

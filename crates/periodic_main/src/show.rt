@@ -1,11 +1,12 @@
 // What is asked of the table, and the answer.
 use lines::Line;
 use periodic::{Registered, Subscriptions};
+use std::io;
 use uds::clock::{Duration, Instant};
 use uds::table::Found;
 
 // The number of an entry, and what it holds.
-pub(crate) fn entry(subs: &Subscriptions, i: usize) {
+pub(crate) fn entry(rt: &impl Print, subs: &Subscriptions, i: usize) -> io::Result<()> {
     let e = periodic::entry_at(subs, i);
     Line::new()
         .number(i as u64)
@@ -14,11 +15,13 @@ pub(crate) fn entry(subs: &Subscriptions, i: usize) {
         .number(e.client as u64)
         .number(e.interval.0)
         .number(e.next.0)
-        .print();
+        .print(rt)?;
+    Ok(())
 }
 
 // How many entries stand now, or `full`.
 pub(crate) fn register(
+    rt: &impl Print,
     what: &[u8],
     subs: &mut Subscriptions,
     count: u8,
@@ -26,7 +29,7 @@ pub(crate) fn register(
     client: u32,
     interval: u64,
     t: u64,
-) -> u8 {
+) -> io::Result<u8> {
     let line = Line::new().text(what);
     let span = Duration(interval);
     let Registered::Stands(n) = periodic::register(
@@ -37,32 +40,41 @@ pub(crate) fn register(
         span,
         Instant(t),
     ) else {
-        line.text(b" full").print();
-        return count;
+        line.text(b" full").print(rt)?;
+        return Ok(count);
     };
-    line.number(n as u64).print();
-    n
+    line.number(n as u64).print(rt)?;
+    Ok(n)
 }
 
 // How many entries stand now.
 pub(crate) fn cancel(
+    rt: &impl Print,
     what: &[u8],
     subs: &mut Subscriptions,
     count: u8,
     identifier: u16,
     client: u32,
-) -> u8 {
+) -> io::Result<u8> {
     let left = periodic::cancel(subs, count, identifier, client);
-    Line::new().text(what).number(left as u64).print();
-    left
+    Line::new().text(what).number(left as u64).print(rt)?;
+    Ok(left)
 }
 
 // The number of the entry, or `-`.
-pub(crate) fn find(what: &[u8], subs: &Subscriptions, count: u8, identifier: u16, client: u32) {
+pub(crate) fn find(
+    rt: &impl Print,
+    what: &[u8],
+    subs: &Subscriptions,
+    count: u8,
+    identifier: u16,
+    client: u32,
+) -> io::Result<()> {
     let line = Line::new().text(what);
     let Found::At(i) = periodic::find(subs, count, identifier, client) else {
-        line.text(b" -").print();
-        return;
+        line.text(b" -").print(rt)?;
+        return Ok(());
     };
-    line.number(i as u64).print();
+    line.number(i as u64).print(rt)?;
+    Ok(())
 }

@@ -2,6 +2,7 @@
 // drain the result, how many frames were written, how many wait then, and the buffer, which held EE. What it must write was worked out by hand from the rules
 // in docs/PROMISES.md, before the program ran.
 #![tactic(auto)]
+
 mod requests;
 mod show;
 
@@ -9,6 +10,7 @@ use config::{Config, build};
 use queue::{Heads, Room};
 use server::fresh::Server;
 use state::State;
+use std::io;
 use uds::clock::Instant;
 use uds::rows::SessionConfig;
 
@@ -43,29 +45,47 @@ fn not_valid(s: State) -> State {
 }
 
 // A buffer that is a byte short, one that is exactly full, what is left then, and a longer buffer; and 10, which comes before 5.
-fn lent(c: &Config, other: &Config) {
+fn lent(rt: &impl Print, c: &Config, other: &Config) -> io::Result<()> {
     let mut heads = [0u32; 32];
     let mut room = [0u8; 4353];
     let s = waiting(&mut heads, &mut room);
-    let same = show::lent(b"a byte short:", c, s, &heads, &room, &mut [0xEE; 21]);
-    let empty = show::lent(b"exactly full:", c, same, &heads, &room, &mut [0xEE; 22]);
-    show::lent(b"again:", c, empty, &heads, &room, &mut [0xEE; 3]);
-    show::lent(b"longer:", c, s, &heads, &room, &mut [0xEE; 24]);
+    let same = show::lent(rt, b"a byte short:", c, s, &heads, &room, &mut [0xEE; 21])?;
+    let empty = show::lent(
+        rt,
+        b"exactly full:",
+        c,
+        same,
+        &heads,
+        &room,
+        &mut [0xEE; 22],
+    )?;
+    show::lent(rt, b"again:", c, empty, &heads, &room, &mut [0xEE; 3])?;
+    show::lent(rt, b"longer:", c, s, &heads, &room, &mut [0xEE; 24])?;
     let bad = not_valid(s);
-    show::lent(b"not valid:", c, bad, &heads, &room, &mut [0xEE; 22]);
+    show::lent(rt, b"not valid:", c, bad, &heads, &room, &mut [0xEE; 22])?;
     show::lent(
+        rt,
         b"not valid, a byte short:",
         c,
         bad,
         &heads,
         &room,
         &mut [0xEE; 21],
-    );
-    show::lent(b"nine sessions:", other, s, &heads, &room, &mut [0xEE; 22]);
+    )?;
+    show::lent(
+        rt,
+        b"nine sessions:",
+        other,
+        s,
+        &heads,
+        &room,
+        &mut [0xEE; 22],
+    )?;
+    Ok(())
 }
 
 // The same by the other door.
-fn by_value(v: Server) {
+fn by_value(rt: &impl Print, v: Server) -> io::Result<()> {
     let mut heads = v.heads;
     let mut room = v.room;
     let s = waiting(&mut heads, &mut room);
@@ -73,20 +93,22 @@ fn by_value(v: Server) {
     full.heads = heads;
     full.room = room;
     full.state = s;
-    let same = show::by_value(b"by value, a byte short:", full, &mut [0xEE; 21]);
-    let mut empty = show::by_value(b"by value, exactly full:", same, &mut [0xEE; 22]);
-    show::by_value(b"by value, again:", empty, &mut [0xEE; 3]);
+    let same = show::by_value(rt, b"by value, a byte short:", full, &mut [0xEE; 21])?;
+    let mut empty = show::by_value(rt, b"by value, exactly full:", same, &mut [0xEE; 22])?;
+    show::by_value(rt, b"by value, again:", empty, &mut [0xEE; 3])?;
     let bad = not_valid(empty.state);
     empty.state = bad;
-    show::by_value(b"by value, not valid:", empty, &mut [0xEE; 3]);
+    show::by_value(rt, b"by value, not valid:", empty, &mut [0xEE; 3])?;
+    Ok(())
 }
 
-fn main() {
+fn main(rt: HostRuntime) -> io::Result<()> {
     let eight = sessions(8);
     let nine = sessions(9);
-    let v = show::fresh(b"eight sessions:", eight);
-    show::fresh(b"nine sessions:", nine);
-    lent(&eight, &nine);
-    by_value(v);
-    requests::run();
+    let v = show::fresh(&rt, b"eight sessions:", eight)?;
+    show::fresh(&rt, b"nine sessions:", nine)?;
+    lent(&rt, &eight, &nine)?;
+    by_value(&rt, v)?;
+    requests::run(&rt)?;
+    Ok(())
 }

@@ -8,6 +8,7 @@ use periodic::Subscriptions;
 use queue::{Heads, Room};
 use security::{Security, SecurityState};
 use state::State;
+use std::io;
 use uds::clock::{Duration, Instant};
 use uds::rows::{DidConfig, SecurityLevelConfig, ServiceConfig, SessionConfig};
 
@@ -36,6 +37,7 @@ fn configured() -> Config {
 
 // One request from 3712, and a drain after it. F190 has the value 12 34.
 fn ask(
+    rt: &impl Print,
     what: &[u8],
     c: &Config,
     s: State,
@@ -48,7 +50,7 @@ fn ask(
     frame: &[u8],
     err: u8,
     given: &[u8],
-) -> State {
+) -> io::Result<State> {
     let a = request(
         c,
         s,
@@ -78,24 +80,26 @@ fn ask(
     let d = drain(c, left, k, subs, heads, room, &mut out);
     let next = d.state;
     if d.frames == 0 {
-        line.print();
-        return next;
+        line.print(rt)?;
+        return Ok(next);
     }
     let rest = uds::frame::byte(&out, 0) as usize;
-    line.lower_hex(service::first(&out, 4 + rest)).print();
-    next
+    line.lower_hex(service::first(&out, 4 + rest)).print(rt)?;
+    Ok(next)
 }
 
 // The key stands between: refused, unlocked, read.
 fn keyed(
+    rt: &impl Print,
     c: &Config,
     s: State,
     k: &mut Security,
     subs: &mut Subscriptions,
     heads: &mut Heads,
     room: &mut Room,
-) -> State {
+) -> io::Result<State> {
     let a = ask(
+        rt,
         b"10 03:",
         c,
         s,
@@ -108,8 +112,9 @@ fn keyed(
         b"\x10\x03",
         0,
         b"",
-    );
+    )?;
     let b = ask(
+        rt,
         b"22 F190:",
         c,
         a,
@@ -122,9 +127,10 @@ fn keyed(
         b"\x22\xF1\x90",
         0,
         b"",
-    );
+    )?;
     let seed = b"\x01\x02\x03\x04";
     let d = ask(
+        rt,
         b"27 03:",
         c,
         b,
@@ -137,10 +143,13 @@ fn keyed(
         b"\x27\x03",
         0,
         seed,
-    );
+    )?;
     let key = b"\x27\x04\xAA\xBB\xCC\xDD";
-    let e = ask(b"27 04:", c, d, k, subs, heads, room, 400, 16, key, 0, b"");
-    ask(
+    let e = ask(
+        rt, b"27 04:", c, d, k, subs, heads, room, 400, 16, key, 0, b"",
+    )?;
+    Ok(ask(
+        rt,
         b"22 F190:",
         c,
         e,
@@ -153,20 +162,22 @@ fn keyed(
         b"\x22\xF1\x90",
         0,
         b"",
-    )
+    )?)
 }
 
 // What is refused or dropped before a service is asked, and a request that is pending.
 fn refused(
+    rt: &impl Print,
     c: &Config,
     s: State,
     k: &mut Security,
     subs: &mut Subscriptions,
     heads: &mut Heads,
     room: &mut Room,
-) {
+) -> io::Result<()> {
     let late = 0x1_0000_0000_0001;
     let a = ask(
+        rt,
         b"to another:",
         c,
         s,
@@ -179,8 +190,9 @@ fn refused(
         b"\x3E\x00",
         0,
         b"",
-    );
+    )?;
     let b = ask(
+        rt,
         b"too late:",
         c,
         a,
@@ -193,9 +205,12 @@ fn refused(
         b"\x3E\x00",
         0,
         b"",
-    );
-    let d = ask(b"empty:", c, b, k, subs, heads, room, 700, 16, b"", 0, b"");
+    )?;
+    let d = ask(
+        rt, b"empty:", c, b, k, subs, heads, room, 700, 16, b"", 0, b"",
+    )?;
     let e = ask(
+        rt,
         b"4096 bytes:",
         c,
         d,
@@ -208,8 +223,9 @@ fn refused(
         &[0x3E; 4096],
         0,
         b"",
-    );
+    )?;
     let f = ask(
+        rt,
         b"functional:",
         c,
         e,
@@ -222,8 +238,9 @@ fn refused(
         b"\x22\xFF\xFF",
         0,
         b"",
-    );
+    )?;
     let g = ask(
+        rt,
         b"99:",
         c,
         f,
@@ -236,8 +253,9 @@ fn refused(
         b"\x99\x00",
         0,
         b"",
-    );
+    )?;
     let h = ask(
+        rt,
         b"31:",
         c,
         g,
@@ -250,8 +268,9 @@ fn refused(
         b"\x31\x01\x00\x01",
         0x78,
         b"",
-    );
+    )?;
     ask(
+        rt,
         b"busy:",
         c,
         h,
@@ -264,16 +283,26 @@ fn refused(
         b"\x3E\x00",
         0,
         b"",
-    );
+    )?;
+    Ok(())
 }
 
-pub(crate) fn run() {
+pub(crate) fn run(rt: &impl Print) -> io::Result<()> {
     let c = configured();
     let fresh = SecurityState::new();
     let mut k = fresh.words;
     let mut subs = [0u64; 64];
     let mut heads = [0u32; 32];
     let mut room = [0u8; 4353];
-    let s = keyed(&c, State::new(), &mut k, &mut subs, &mut heads, &mut room);
-    refused(&c, s, &mut k, &mut subs, &mut heads, &mut room);
+    let s = keyed(
+        rt,
+        &c,
+        State::new(),
+        &mut k,
+        &mut subs,
+        &mut heads,
+        &mut room,
+    )?;
+    refused(rt, &c, s, &mut k, &mut subs, &mut heads, &mut room)?;
+    Ok(())
 }

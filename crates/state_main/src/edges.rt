@@ -2,6 +2,7 @@
 use config::Config;
 use lines::Line;
 use state::State;
+use std::io;
 use uds::clock::Instant;
 
 // Valid beside a fresh security record.
@@ -9,12 +10,13 @@ fn valid(c: &Config, s: State) -> bool {
     state::valid::is_valid(c, s, &[0; 68], &[0; 64], &[1; 32], &[0; 4353])
 }
 
-fn pair(name: &[u8], last: bool, past: bool) {
-    Line::new().text(name).flag(last).flag(past).print();
+fn pair(rt: &impl Print, name: &[u8], last: bool, past: bool) -> io::Result<()> {
+    Line::new().text(name).flag(last).flag(past).print(rt)?;
+    Ok(())
 }
 
 // Session, level and moment of the last request, how it was addressed, whether one is pending, subscriptions and frames; and that it is valid.
-pub(crate) fn fresh(c: &Config) {
+pub(crate) fn fresh(rt: &impl Print, c: &Config) -> io::Result<()> {
     let s = State::new();
     let session = s.session;
     let pending = s.pending;
@@ -28,7 +30,8 @@ pub(crate) fn fresh(c: &Config) {
         .number(s.subscriptions as u64)
         .number(s.frames as u64)
         .flag(valid(c, s))
-        .print();
+        .print(rt)?;
+    Ok(())
 }
 
 // The last request was received then.
@@ -51,22 +54,25 @@ fn pending(t: u64, on: bool) -> State {
     s
 }
 
-pub(crate) fn moments(c: &Config) {
+pub(crate) fn moments(rt: &impl Print, c: &Config) -> io::Result<()> {
     let last = Instant::MAX_MOMENT;
     pair(
+        rt,
         b"last request:",
         valid(c, received(last)),
         valid(c, received(last + 1)),
-    );
+    )?;
     pair(
+        rt,
         b"deadline:",
         valid(c, pending(last, true)),
         valid(c, pending(last + 1, true)),
-    );
+    )?;
     Line::new()
         .text(b"deadline, none pending:")
         .flag(valid(c, pending(last + 1, false)))
-        .print();
+        .print(rt)?;
+    Ok(())
 }
 
 // Valid beside a security record of these lengths, whose eighth lock ends at this moment.
@@ -79,16 +85,18 @@ fn beside(c: &Config, seed: u64, counts: u64, locks: u64, until: u64) -> bool {
     state::valid::is_valid(c, State::new(), &k, &[0; 64], &[1; 32], &[0; 4353])
 }
 
-pub(crate) fn secured(c: &Config) {
+pub(crate) fn secured(rt: &impl Print, c: &Config) -> io::Result<()> {
     let last = Instant::MAX_MOMENT;
-    pair(b"seed:", beside(c, 32, 0, 0, 0), beside(c, 33, 0, 0, 0));
-    pair(b"counts:", beside(c, 0, 8, 0, 0), beside(c, 0, 9, 0, 0));
-    pair(b"locks:", beside(c, 0, 0, 8, 0), beside(c, 0, 0, 9, 0));
+    pair(rt, b"seed:", beside(c, 32, 0, 0, 0), beside(c, 33, 0, 0, 0))?;
+    pair(rt, b"counts:", beside(c, 0, 8, 0, 0), beside(c, 0, 9, 0, 0))?;
+    pair(rt, b"locks:", beside(c, 0, 0, 8, 0), beside(c, 0, 0, 9, 0))?;
     pair(
+        rt,
         b"lock:",
         beside(c, 0, 0, 8, last),
         beside(c, 0, 0, 8, last + 1),
-    );
+    )?;
+    Ok(())
 }
 
 // Valid with so many subscriptions, all of this interval and next due at this moment.
@@ -101,15 +109,22 @@ fn among(c: &Config, count: u8, interval: u64, next: u64) -> bool {
     state::valid::is_valid(c, s, &[0; 68], &subs, &[1; 32], &[0; 4353])
 }
 
-pub(crate) fn subscribed(c: &Config) {
+pub(crate) fn subscribed(rt: &impl Print, c: &Config) -> io::Result<()> {
     let last = Instant::MAX_MOMENT;
-    pair(b"subscriptions:", among(c, 16, 0, 0), among(c, 17, 0, 0));
     pair(
+        rt,
+        b"subscriptions:",
+        among(c, 16, 0, 0),
+        among(c, 17, 0, 0),
+    )?;
+    pair(
+        rt,
         b"interval:",
         among(c, 1, 0xFFFF_FFFF, 0),
         among(c, 1, 0x1_0000_0000, 0),
-    );
-    pair(b"next:", among(c, 1, 0, last), among(c, 1, 0, last + 1));
+    )?;
+    pair(rt, b"next:", among(c, 1, 0, last), among(c, 1, 0, last + 1))?;
+    Ok(())
 }
 
 // Valid with so many frames waiting, all of this length.
@@ -119,16 +134,24 @@ fn waiting(c: &Config, count: u8, len: u32) -> bool {
     state::valid::is_valid(c, s, &[0; 68], &[0; 64], &[len; 32], &[0; 4353])
 }
 
-pub(crate) fn framed(c: &Config) {
-    pair(b"frames:", waiting(c, 16, 1), waiting(c, 17, 1));
-    pair(b"longest frame:", waiting(c, 1, 256), waiting(c, 1, 257));
-    pair(b"shortest frame:", waiting(c, 1, 1), waiting(c, 1, 0));
+pub(crate) fn framed(rt: &impl Print, c: &Config) -> io::Result<()> {
+    pair(rt, b"frames:", waiting(c, 16, 1), waiting(c, 17, 1))?;
+    pair(
+        rt,
+        b"longest frame:",
+        waiting(c, 1, 256),
+        waiting(c, 1, 257),
+    )?;
+    pair(rt, b"shortest frame:", waiting(c, 1, 1), waiting(c, 1, 0))?;
+    Ok(())
 }
 
-pub(crate) fn configured(eight: &Config, nine: &Config) {
+pub(crate) fn configured(rt: &impl Print, eight: &Config, nine: &Config) -> io::Result<()> {
     pair(
+        rt,
         b"sessions:",
         valid(eight, State::new()),
         valid(nine, State::new()),
-    );
+    )?;
+    Ok(())
 }

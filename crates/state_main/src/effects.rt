@@ -7,6 +7,7 @@ use queue::{Heads, Room};
 use security::Security;
 use state::State;
 use state::apply::{Effect, apply};
+use std::io;
 use uds::clock::Instant;
 
 // Session 3 opened, and a reply.
@@ -23,6 +24,7 @@ fn effect(reply: Reply, waits: bool) -> Effect {
 
 // Carried out at a time, and told.
 fn carried(
+    rt: &impl Print,
     what: &[u8],
     c: &Config,
     s: State,
@@ -31,7 +33,7 @@ fn carried(
     t: u64,
     functional: bool,
     e: Effect,
-) -> State {
+) -> io::Result<State> {
     let a = apply(
         c,
         s,
@@ -54,16 +56,17 @@ fn carried(
         .number(state.frames as u64)
         .flag(pending.on)
         .number(pending.deadline.0)
-        .print();
-    state
+        .print(rt)?;
+    Ok(state)
 }
 
 // Nothing said, a code that is withheld after a functional request, one that is not, and 78 now and at the end of the clock.
-fn replies(c: &Config) {
+fn replies(rt: &impl Print, c: &Config) -> io::Result<()> {
     let mut h = [0u32; 32];
     let mut room = [0u8; 4353];
     let silent = effect(Reply::Silent, false);
     let mut s = carried(
+        rt,
         b"silent:",
         c,
         State::new(),
@@ -72,14 +75,25 @@ fn replies(c: &Config) {
         100,
         true,
         silent,
-    );
+    )?;
     let withheld = effect(Reply::Negative(0x31), false);
-    s = carried(b"withheld:", c, s, &mut h, &mut room, 100, true, withheld);
+    s = carried(
+        rt,
+        b"withheld:",
+        c,
+        s,
+        &mut h,
+        &mut room,
+        100,
+        true,
+        withheld,
+    )?;
     let sent = effect(Reply::Negative(0x33), false);
-    s = carried(b"sent:", c, s, &mut h, &mut room, 100, true, sent);
+    s = carried(rt, b"sent:", c, s, &mut h, &mut room, 100, true, sent)?;
     let pends = effect(Reply::Pends, false);
-    s = carried(b"pends:", c, s, &mut h, &mut room, 100, true, pends);
+    s = carried(rt, b"pends:", c, s, &mut h, &mut room, 100, true, pends)?;
     carried(
+        rt,
         b"pends at the end:",
         c,
         s,
@@ -88,17 +102,19 @@ fn replies(c: &Config) {
         Instant::LAST,
         true,
         pends,
-    );
+    )?;
+    Ok(())
 }
 
 // Sixteen wait: a change that does not wait for its reply is made, and one that does is not.
-fn full(c: &Config) {
+fn full(rt: &impl Print, c: &Config) -> io::Result<()> {
     let mut h = [1u32; 32];
     let mut room = [0u8; 4353];
     let mut s = State::new();
     s.frames = 16;
     let at_once = effect(Reply::Positive(2), false);
     carried(
+        rt,
         b"made, then 3:",
         c,
         s,
@@ -107,9 +123,10 @@ fn full(c: &Config) {
         100,
         false,
         at_once,
-    );
+    )?;
     let waits = effect(Reply::Positive(2), true);
     carried(
+        rt,
         b"3, so not made:",
         c,
         s,
@@ -118,9 +135,10 @@ fn full(c: &Config) {
         100,
         false,
         waits,
-    );
+    )?;
     s.frames = 15;
     carried(
+        rt,
         b"the sixteenth, so made:",
         c,
         s,
@@ -129,11 +147,20 @@ fn full(c: &Config) {
         100,
         false,
         waits,
-    );
+    )?;
+    Ok(())
 }
 
 // Session 3 and level 3, five subscriptions, and the seed cleared or not. The clock went back: the last request was at 500, and this one is at 100.
-fn seeded(what: &[u8], c: &Config, frames: u8, functional: bool, clears_seed: bool, waits: bool) {
+fn seeded(
+    rt: &impl Print,
+    what: &[u8],
+    c: &Config,
+    frames: u8,
+    functional: bool,
+    clears_seed: bool,
+    waits: bool,
+) -> io::Result<()> {
     let mut k: Security = [0; 68];
     security::seed(&mut k, 3, b"\x01\x02\x03\x04");
     let mut s = received(500);
@@ -169,15 +196,17 @@ fn seeded(what: &[u8], c: &Config, frames: u8, functional: bool, clears_seed: bo
         .number(state.subscriptions as u64)
         .number(then.last_rx.0)
         .flag(state.functional)
-        .print();
+        .print(rt)?;
+    Ok(())
 }
 
-pub(crate) fn run(c: &Config) {
-    replies(c);
-    full(c);
-    seeded(b"seed kept:", c, 0, false, false, false);
-    seeded(b"seed cleared:", c, 0, false, true, true);
-    seeded(b"3, so seed kept:", c, 16, false, true, true);
-    seeded(b"seed cleared, then 3:", c, 16, false, true, false);
-    seeded(b"functional:", c, 0, true, true, false);
+pub(crate) fn run(rt: &impl Print, c: &Config) -> io::Result<()> {
+    replies(rt, c)?;
+    full(rt, c)?;
+    seeded(rt, b"seed kept:", c, 0, false, false, false)?;
+    seeded(rt, b"seed cleared:", c, 0, false, true, true)?;
+    seeded(rt, b"3, so seed kept:", c, 16, false, true, true)?;
+    seeded(rt, b"seed cleared, then 3:", c, 16, false, true, false)?;
+    seeded(rt, b"functional:", c, 0, true, true, false)?;
+    Ok(())
 }

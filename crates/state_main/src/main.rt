@@ -3,12 +3,14 @@
 // the result, the seed's length, session, level, subscriptions, the last request's moment, and whether that was functional. 1 is yes and 0 is no.
 // What it must write was worked out by hand from the rules in docs/PROMISES.md, before the program ran.
 #![tactic(auto)]
+
 mod edges;
 mod effects;
 
 use config::{Config, build};
 use lines::Line;
 use state::SessionState;
+use std::io;
 use uds::clock::Instant;
 use uds::rows::SessionConfig;
 
@@ -23,7 +25,7 @@ fn sessions(mut c: Config, n: u8) -> Config {
 }
 
 // Another session: its level is not held yet, and the last request was when it was.
-fn opened() {
+fn opened(rt: &impl Print) -> io::Result<()> {
     let session = SessionState {
         last_rx: Instant(7),
         session_type: 1,
@@ -35,18 +37,20 @@ fn opened() {
         .number(next.session_type as u64)
         .number(next.level as u64)
         .number(next.last_rx.0)
-        .print();
+        .print(rt)?;
+    Ok(())
 }
 
-fn main() {
+fn main(rt: HostRuntime) -> io::Result<()> {
     let c = sessions(build::new(16, 2015), 8);
-    edges::fresh(&c);
-    opened();
-    edges::moments(&c);
-    edges::secured(&c);
-    edges::subscribed(&c);
-    edges::framed(&c);
+    edges::fresh(&rt, &c)?;
+    opened(&rt)?;
+    edges::moments(&rt, &c)?;
+    edges::secured(&rt, &c)?;
+    edges::subscribed(&rt, &c)?;
+    edges::framed(&rt, &c)?;
     let nine = sessions(build::new(16, 2015), 9);
-    edges::configured(&c, &nine);
-    effects::run(&c);
+    edges::configured(&rt, &c, &nine)?;
+    effects::run(&rt, &c)?;
+    Ok(())
 }

@@ -1,10 +1,12 @@
 // Runs 34, 36, 37 and 38 at the edges of their payloads and of what is handed in for their acts. Of each request two lines: what a question is told, and
 // the act and the reply.
 #![tactic(auto)]
+
 use lines::Line;
 use queue::Room;
 use queue::reply::Reply;
 use service::{Act, Ask, Part, Spoken};
+use std::io;
 
 fn part(line: Line, part: Part) -> Line {
     line.number(part.start as u64).number(part.len as u64)
@@ -45,151 +47,167 @@ fn reply(line: Line, reply: Reply, room: &Room) -> Line {
 }
 
 // The answer to a question.
-fn asked(ask: Ask) {
+fn asked(rt: &impl Print, ask: Ask) -> io::Result<()> {
     let line = match ask {
         Ask::Refused(code) => Line::new().word(b"refused").hex(&[code]),
         Ask::Asks(asks) => act(Line::new().word(b"asks"), asks),
     };
-    line.print();
+    line.print(rt)?;
+    Ok(())
 }
 
 // The answer to a request.
-fn spoken(spoken: Spoken, room: &Room) {
+fn spoken(rt: &impl Print, spoken: Spoken, room: &Room) -> io::Result<()> {
     let acts = spoken.act;
     let says = spoken.reply;
-    reply(act(Line::new(), acts), says, room).print();
+    reply(act(Line::new(), acts), says, room).print(rt)?;
+    Ok(())
 }
 
 // Two lines: what is asked, and the answer.
-fn run34(payload: &[u8], err: u8, given: &[u8]) {
+fn run34(rt: &impl Print, payload: &[u8], err: u8, given: &[u8]) -> io::Result<()> {
     let mut room = [0u8; 4353];
-    asked(transfer::service34::ask34(payload));
+    asked(rt, transfer::service34::ask34(payload))?;
     let answer = transfer::service34::service34(0, payload, err, given, &mut room);
-    spoken(answer, &room);
+    spoken(rt, answer, &room)?;
+    Ok(())
 }
 
 // Two lines: what is asked, and the answer.
-fn run36(payload: &[u8], err: u8, given: &[u8]) {
+fn run36(rt: &impl Print, payload: &[u8], err: u8, given: &[u8]) -> io::Result<()> {
     let mut room = [0u8; 4353];
-    asked(transfer::service36::ask36(payload));
+    asked(rt, transfer::service36::ask36(payload))?;
     let answer = transfer::service36::service36(0, payload, err, given, &mut room);
-    spoken(answer, &room);
+    spoken(rt, answer, &room)?;
+    Ok(())
 }
 
 // Two lines: what is asked, and the answer.
-fn run37(payload: &[u8], err: u8, given: &[u8]) {
+fn run37(rt: &impl Print, payload: &[u8], err: u8, given: &[u8]) -> io::Result<()> {
     let mut room = [0u8; 4353];
-    asked(Ask::Asks(transfer::service37::ask37(payload)));
+    asked(rt, Ask::Asks(transfer::service37::ask37(payload)))?;
     let answer = transfer::service37::service37(0, payload, err, given, &mut room);
-    spoken(answer, &room);
+    spoken(rt, answer, &room)?;
+    Ok(())
 }
 
 // Two lines: what is asked, and the answer.
-fn run38(payload: &[u8], err: u8, given: &[u8]) {
+fn run38(rt: &impl Print, payload: &[u8], err: u8, given: &[u8]) -> io::Result<()> {
     let mut room = [0u8; 4353];
-    asked(transfer::service38::ask38(payload));
+    asked(rt, transfer::service38::ask38(payload))?;
     let answer = transfer::service38::service38(0, payload, err, given, &mut room);
-    spoken(answer, &room);
+    spoken(rt, answer, &room)?;
+    Ok(())
 }
 
 // Short payloads, lengths of nothing, both lengths, a byte less and a byte more, an address alone, a size alone, lengths of 15.
-fn lengths34() {
+fn lengths34(rt: &impl Print) -> io::Result<()> {
     let both = [0xFFu8; 32];
-    run34(&[], 0, &[]);
-    run34(&[0x00, 0x11], 0, &[]);
-    run34(&[0x00, 0x00, 0x99], 0, &[0x20, 0x10, 0x00]);
+    run34(rt, &[], 0, &[])?;
+    run34(rt, &[0x00, 0x11], 0, &[])?;
+    run34(rt, &[0x00, 0x00, 0x99], 0, &[0x20, 0x10, 0x00])?;
     run34(
+        rt,
         &[0x11, 0x24, 0xA1, 0xA2, 0xB1, 0xB2, 0xB3, 0xB4],
         0,
         &[0x20],
-    );
-    run34(&[0x11, 0x24, 0xA1, 0xA2, 0xB1, 0xB2, 0xB3], 0, &[0x20]);
+    )?;
+    run34(rt, &[0x11, 0x24, 0xA1, 0xA2, 0xB1, 0xB2, 0xB3], 0, &[0x20])?;
     run34(
+        rt,
         &[0x11, 0x24, 0xA1, 0xA2, 0xB1, 0xB2, 0xB3, 0xB4, 0xCC],
         0,
         &[0x20],
-    );
-    run34(&[0x00, 0x40, 0x01, 0x02, 0x03, 0x04], 0, &[0x20]);
-    run34(&[0x00, 0x40, 0x01, 0x02, 0x03], 0, &[0x20]);
-    run34(&[0x00, 0x02, 0x01, 0x02], 0, &[0x20]);
-    run34(&[0x00, 0x02, 0x01], 0, &[0x20]);
-    run34(&both[..32], 0, &[]);
-    run34(&both[..31], 0, &[]);
+    )?;
+    run34(rt, &[0x00, 0x40, 0x01, 0x02, 0x03, 0x04], 0, &[0x20])?;
+    run34(rt, &[0x00, 0x40, 0x01, 0x02, 0x03], 0, &[0x20])?;
+    run34(rt, &[0x00, 0x02, 0x01, 0x02], 0, &[0x20])?;
+    run34(rt, &[0x00, 0x02, 0x01], 0, &[0x20])?;
+    run34(rt, &both[..32], 0, &[])?;
+    run34(rt, &both[..31], 0, &[])?;
+    Ok(())
 }
 
 // An act of 64 bytes, of 65, errors with and without bytes, a pending one.
-fn acts34() {
+fn acts34(rt: &impl Print) -> io::Result<()> {
     let bytes = [0x5Au8; 257];
     let request = [0x11, 0x24, 0xA1, 0xA2, 0xB1, 0xB2, 0xB3, 0xB4];
-    run34(&request[..8], 0, &bytes[..64]);
-    run34(&request[..8], 0, &bytes[..65]);
-    run34(&request[..8], 0x70, &[]);
-    run34(&request[..8], 0x31, &bytes[..65]);
-    run34(&request[..8], 0x78, &[]);
+    run34(rt, &request[..8], 0, &bytes[..64])?;
+    run34(rt, &request[..8], 0, &bytes[..65])?;
+    run34(rt, &request[..8], 0x70, &[])?;
+    run34(rt, &request[..8], 0x31, &bytes[..65])?;
+    run34(rt, &request[..8], 0x78, &[])?;
+    Ok(())
 }
 
 // No counter, a counter alone, a block, the longest block.
-fn counters36() {
+fn counters36(rt: &impl Print) -> io::Result<()> {
     let block = [0x07u8; 4094];
-    run36(&[], 0, &[]);
-    run36(&[0x05], 0, &[]);
-    run36(&[0xFF, 0x01, 0x02, 0x03], 0, &[0xAA]);
-    run36(&block[..4094], 0, &[]);
+    run36(rt, &[], 0, &[])?;
+    run36(rt, &[0x05], 0, &[])?;
+    run36(rt, &[0xFF, 0x01, 0x02, 0x03], 0, &[0xAA])?;
+    run36(rt, &block[..4094], 0, &[])?;
+    Ok(())
 }
 
 // Acts that fill a reply, that are a byte over, of 256 and 257 bytes, errors, a pending one.
-fn acts36() {
+fn acts36(rt: &impl Print) -> io::Result<()> {
     let bytes = [0x5Au8; 257];
-    run36(&[0x01, 0x02], 0, &bytes[..255]);
-    run36(&[0x01, 0x02], 0, &bytes[..256]);
-    run36(&[0x01, 0x02], 0, &bytes[..257]);
-    run36(&[0x01, 0x02], 0x73, &[]);
-    run36(&[0x01, 0x02], 0x24, &bytes[..257]);
-    run36(&[0x01, 0x02], 0x78, &[]);
+    run36(rt, &[0x01, 0x02], 0, &bytes[..255])?;
+    run36(rt, &[0x01, 0x02], 0, &bytes[..256])?;
+    run36(rt, &[0x01, 0x02], 0, &bytes[..257])?;
+    run36(rt, &[0x01, 0x02], 0x73, &[])?;
+    run36(rt, &[0x01, 0x02], 0x24, &bytes[..257])?;
+    run36(rt, &[0x01, 0x02], 0x78, &[])?;
+    Ok(())
 }
 
 // No payload and some; acts of no byte, of 256 and 257, errors, a pending one.
-fn any37() {
+fn any37(rt: &impl Print) -> io::Result<()> {
     let bytes = [0x5Au8; 257];
-    run37(&[], 0, &[]);
-    run37(&[0x01, 0x02], 0, &[0xC0]);
-    run37(&[0x01], 0, &bytes[..256]);
-    run37(&[0x01], 0, &bytes[..257]);
-    run37(&[], 0x10, &[]);
-    run37(&[], 0x78, &bytes[..257]);
+    run37(rt, &[], 0, &[])?;
+    run37(rt, &[0x01, 0x02], 0, &[0xC0])?;
+    run37(rt, &[0x01], 0, &bytes[..256])?;
+    run37(rt, &[0x01], 0, &bytes[..257])?;
+    run37(rt, &[], 0x10, &[])?;
+    run37(rt, &[], 0x78, &bytes[..257])?;
+    Ok(())
 }
 
 // Short payloads, no path, a path that fits exactly, that is a byte short, that is followed by a byte; the same of 257 bytes; one that is far too long.
-fn paths38() {
+fn paths38(rt: &impl Print) -> io::Result<()> {
     let path = [0x01u8; 261];
-    run38(&[], 0, &[]);
-    run38(&[0x01, 0x00], 0, &[]);
-    run38(&[0x01, 0x00, 0x00], 0, &[]);
-    run38(&[0x01, 0x00, 0x02, 0x61, 0x62], 0, &[0x01]);
-    run38(&[0x01, 0x00, 0x02, 0x61], 0, &[0x01]);
-    run38(&[0x01, 0x00, 0x02, 0x61, 0x62, 0x63], 0, &[0x01]);
-    run38(&path[..260], 0, &[]);
-    run38(&path[..259], 0, &[]);
-    run38(&path[..261], 0, &[]);
-    run38(&[0x01, 0xFF, 0xFF, 0x61], 0, &[]);
-    run38(&[0x01, 0x02, 0x00, 0x61, 0x62], 0, &[]);
+    run38(rt, &[], 0, &[])?;
+    run38(rt, &[0x01, 0x00], 0, &[])?;
+    run38(rt, &[0x01, 0x00, 0x00], 0, &[])?;
+    run38(rt, &[0x01, 0x00, 0x02, 0x61, 0x62], 0, &[0x01])?;
+    run38(rt, &[0x01, 0x00, 0x02, 0x61], 0, &[0x01])?;
+    run38(rt, &[0x01, 0x00, 0x02, 0x61, 0x62, 0x63], 0, &[0x01])?;
+    run38(rt, &path[..260], 0, &[])?;
+    run38(rt, &path[..259], 0, &[])?;
+    run38(rt, &path[..261], 0, &[])?;
+    run38(rt, &[0x01, 0xFF, 0xFF, 0x61], 0, &[])?;
+    run38(rt, &[0x01, 0x02, 0x00, 0x61, 0x62], 0, &[])?;
+    Ok(())
 }
 
 // Acts of 256 and 257 bytes, errors, a pending one.
-fn acts38() {
+fn acts38(rt: &impl Print) -> io::Result<()> {
     let bytes = [0x5Au8; 257];
-    run38(&[0x02, 0x00, 0x00], 0, &bytes[..256]);
-    run38(&[0x02, 0x00, 0x00], 0, &bytes[..257]);
-    run38(&[0x02, 0x00, 0x00], 0x70, &bytes[..257]);
-    run38(&[0x02, 0x00, 0x00], 0x78, &[]);
+    run38(rt, &[0x02, 0x00, 0x00], 0, &bytes[..256])?;
+    run38(rt, &[0x02, 0x00, 0x00], 0, &bytes[..257])?;
+    run38(rt, &[0x02, 0x00, 0x00], 0x70, &bytes[..257])?;
+    run38(rt, &[0x02, 0x00, 0x00], 0x78, &[])?;
+    Ok(())
 }
 
-fn main() {
-    lengths34();
-    acts34();
-    counters36();
-    acts36();
-    any37();
-    paths38();
-    acts38();
+fn main(rt: HostRuntime) -> io::Result<()> {
+    lengths34(&rt)?;
+    acts34(&rt)?;
+    counters36(&rt)?;
+    acts36(&rt)?;
+    any37(&rt)?;
+    paths38(&rt)?;
+    acts38(&rt)?;
+    Ok(())
 }

@@ -2,12 +2,14 @@
 // Of 2E it also has the act, of 2A how many subscriptions stand. What it must write was worked out by hand from the rules in docs/PROMISES.md, before the
 // program ran.
 #![tactic(auto)]
+
 mod reading;
 mod show;
 mod subscribing;
 mod writing;
 
 use config::{Config, build};
+use std::io;
 use uds::clock::Duration;
 use uds::rows::DidConfig;
 
@@ -26,15 +28,16 @@ fn configured() -> Config {
     build::with_did(e, last)
 }
 
-fn main() {
+fn main(rt: HostRuntime) -> io::Result<()> {
     let c = configured();
-    reading::values(&c);
-    reading::lengths(&c);
-    reading::seconds(&c);
-    reading::limits(&c);
-    writing::refused(&c);
-    writing::done(&c);
-    subscribing::several(&c);
-    subscribing::full(&c);
-    subscribing::late(&c);
+    reading::values(&rt, &c)?;
+    reading::lengths(&rt, &c)?;
+    reading::seconds(&rt, &c)?;
+    reading::limits(&rt, &c)?;
+    writing::refused(&rt, &c)?;
+    writing::done(&rt, &c)?;
+    subscribing::several(&rt, &c)?;
+    subscribing::full(&rt, &c)?;
+    subscribing::late(&rt, &c)?;
+    Ok(())
 }

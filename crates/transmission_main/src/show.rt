@@ -3,6 +3,7 @@ use lines::Line;
 use periodic::Subscriptions;
 use queue::reply::Reply;
 use queue::{Heads, Room};
+use std::io;
 
 // The reply: how many bytes, or the code.
 fn said(line: Line, reply: Reply) -> Line {
@@ -21,23 +22,31 @@ fn length(heads: &Heads) -> u32 {
 }
 
 // The frame's length, and as much of it as five bytes.
-pub(crate) fn reply(line: Line, reply: Reply, sid: u8, functional: bool, room: &mut Room) {
+pub(crate) fn reply(
+    rt: &impl Print,
+    line: Line,
+    reply: Reply,
+    sid: u8,
+    functional: bool,
+    room: &mut Room,
+) -> io::Result<()> {
     let mut heads = [0u32; 32];
     let told = said(line, reply);
     let pushed = queue::reply::answer(0, &mut heads, room, functional, 16, sid, reply);
     if pushed.count == 0 {
-        told.word(b"none").print();
-        return;
+        told.word(b"none").print(rt)?;
+        return Ok(());
     }
     let len = length(&heads) as usize;
     let frame = service::first(room, len);
     told.number(len as u64)
         .hex(service::first(frame, 5))
-        .print();
+        .print(rt)?;
+    Ok(())
 }
 
 // A subscription: its number, identifier, client, interval, and when it is next due.
-pub(crate) fn entry(subs: &Subscriptions, i: usize) {
+pub(crate) fn entry(rt: &impl Print, subs: &Subscriptions, i: usize) -> io::Result<()> {
     let e = periodic::entry_at(subs, i);
     Line::new()
         .number(i as u64)
@@ -46,5 +55,6 @@ pub(crate) fn entry(subs: &Subscriptions, i: usize) {
         .number(e.client as u64)
         .number(e.interval.0)
         .number(e.next.0)
-        .print();
+        .print(rt)?;
+    Ok(())
 }

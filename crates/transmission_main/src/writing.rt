@@ -2,8 +2,18 @@
 use super::show;
 use config::Config;
 use lines::Line;
+use std::io;
 
-fn write(what: &[u8], c: &Config, session: u8, level: u8, payload: &[u8], err: u8, given: &[u8]) {
+fn write(
+    rt: &impl Print,
+    what: &[u8],
+    c: &Config,
+    session: u8,
+    level: u8,
+    payload: &[u8],
+    err: u8,
+    given: &[u8],
+) -> io::Result<()> {
     let mut room = [0u8; 4353];
     let spoken = data::service2E::service2E(c, session, level, 0, payload, err, given, &mut room);
     let reply = spoken.reply;
@@ -18,22 +28,52 @@ fn write(what: &[u8], c: &Config, session: u8, level: u8, payload: &[u8], err: u
         .number(a.len as u64)
         .number(b.start as u64)
         .number(b.len as u64);
-    show::reply(line, reply, 0x2E, false, &mut room);
+    show::reply(rt, line, reply, 0x2E, false, &mut room)?;
+    Ok(())
 }
 
-pub(crate) fn refused(c: &Config) {
-    write(b"short:", c, 3, 0, b"\xF1\x90", 0, b"");
-    write(b"unknown:", c, 3, 0, b"\xF1\xFF\x01", 0, b"");
-    write(b"not in this session:", c, 1, 0, b"\xF1\x90\x01", 0, b"");
-    write(b"not held:", c, 3, 0, b"\xF1\x91\x01", 0, b"");
+pub(crate) fn refused(rt: &impl Print, c: &Config) -> io::Result<()> {
+    write(rt, b"short:", c, 3, 0, b"\xF1\x90", 0, b"")?;
+    write(rt, b"unknown:", c, 3, 0, b"\xF1\xFF\x01", 0, b"")?;
+    write(
+        rt,
+        b"not in this session:",
+        c,
+        1,
+        0,
+        b"\xF1\x90\x01",
+        0,
+        b"",
+    )?;
+    write(rt, b"not held:", c, 3, 0, b"\xF1\x91\x01", 0, b"")?;
+    Ok(())
 }
 
-pub(crate) fn done(c: &Config) {
+pub(crate) fn done(rt: &impl Print, c: &Config) -> io::Result<()> {
     let given = [0u8; 257];
-    write(b"held:", c, 3, 1, b"\xF1\x91\x01", 0, b"");
-    write(b"four bytes:", c, 3, 0, b"\xF1\x90\x01\x02\x03\x04", 0, b"");
-    write(b"error:", c, 3, 0, b"\xF1\x90\x01", 0x31, b"");
-    write(b"pends:", c, 3, 0, b"\xF1\x90\x01", 0x78, b"");
-    write(b"256 given:", c, 3, 0, b"\xF1\x90\x01", 0, &given[..256]);
-    write(b"257 given:", c, 3, 0, b"\xF1\x90\x01", 0, &given);
+    write(rt, b"held:", c, 3, 1, b"\xF1\x91\x01", 0, b"")?;
+    write(
+        rt,
+        b"four bytes:",
+        c,
+        3,
+        0,
+        b"\xF1\x90\x01\x02\x03\x04",
+        0,
+        b"",
+    )?;
+    write(rt, b"error:", c, 3, 0, b"\xF1\x90\x01", 0x31, b"")?;
+    write(rt, b"pends:", c, 3, 0, b"\xF1\x90\x01", 0x78, b"")?;
+    write(
+        rt,
+        b"256 given:",
+        c,
+        3,
+        0,
+        b"\xF1\x90\x01",
+        0,
+        &given[..256],
+    )?;
+    write(rt, b"257 given:", c, 3, 0, b"\xF1\x90\x01", 0, &given)?;
+    Ok(())
 }

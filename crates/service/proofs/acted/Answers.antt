@@ -1,4 +1,3 @@
--- src/lib.rt:152:9
 use Rattle.std.proofs.Common.{◌++◌}
 use Rattle.service.proofs.Laws.{acted-error}
 use Rattle.service.proofs.acted.Goals as goal
@@ -7,4 +6,3 @@ pub returns-then-code-ne0 : goal.returns-then-code-ne0
 returns-then-code-ne0 c = let a = c.args in
     acted-error a.frames a.room.now a.code a.suppress (a.head.now ++ a.tail.now) c.refusal.result c.if-code-ne0.true (c.refusal.ensures _ _)
 
--- src/lib.rt:155:9

@@ -1,4 +1,3 @@
--- src/lib.rt:125:9
 use Rattle.std.proofs.Common.{ne_eqb, refl}
 use Rattle.model.specs.Reply as Rules
 use Rattle.service.proofs.refusal.Goals as goal
@@ -7,7 +6,6 @@ pub returns-then-code-eq-REQUEST_CORRECTLY_RECEIVED_RESPONSE_PENDING : goal.retu
 unfolding Rules.refusal
 returns-then-code-eq-REQUEST_CORRECTLY_RECEIVED_RESPONSE_PENDING c = λ count room. rw c.if-code-eq-REQUEST_CORRECTLY_RECEIVED_RESPONSE_PENDING.true refl
 
--- src/lib.rt:121:1
 
 pub returns : goal.returns
 unfolding Rules.refusal

@@ -1,4 +1,3 @@
--- src/service27.rt:162:5
 use Rattle.std.proofs.Common.{[], ap, false, sym, ◌+◌, ◌∷◌}
 use Rattle.model.specs.State.{Security, unlocked}
 use Rattle.model.specs.Queue.{positive}

@@ -1,4 +1,3 @@
--- src/service27.rt:123:9
 use Rattle.std.proofs.Common.{sym, ◌∙◌}
 use Rattle.service.specs.Seen.{asking, configured, received_at, secured}
 use Rattle.access.proofs.Access.{refused-access, ready-access}
@@ -9,7 +8,6 @@ returns-then-not-ready c = let a = c.args in λ v.
     let u = secured a.k.now (received_at a.t.0 (asking a.payload.now (configured a.config.now v))) in
     record { asked = refused-access u (sym c.ready.ensures ∙ c.if-not-ready.true) }
 
--- src/service27.rt:126:5
 
 pub returns : goal.returns
 returns c = let a = c.args in λ v.

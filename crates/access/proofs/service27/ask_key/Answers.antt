@@ -1,4 +1,3 @@
--- src/service27.rt:81:8
 use Rattle.service.specs.Seen.{asking, configured, received_at, secured}
 use Rattle.access.proofs.Access.{ready-security, few-locks, key-locked, key-early, key_misfit, asks-key}
 use Rattle.access.proofs.service27.ask_key.Goals as goal
@@ -9,7 +8,6 @@ returns-then-is_locked c = let a = c.args in λ v.
     let few = few-locks u.security (ready-security u.config u.security u.now c.requires.0) in
     record { asked = key-locked u a.level few c.is_locked.result c.is_locked.ensures c.if-is_locked.true }
 
--- src/service27.rt:84:9
 
 pub returns-then-not-awaits : goal.returns-then-not-awaits
 returns-then-not-awaits c = let a = c.args in λ v.
@@ -17,7 +15,6 @@ returns-then-not-awaits c = let a = c.args in λ v.
     let few = few-locks u.security (ready-security u.config u.security u.now c.requires.0) in
     record { asked = key-early u a.level few c.is_locked.result c.is_locked.ensures c.if-is_locked.false c.awaits.result c.awaits.ensures c.if-not-awaits.true }
 
--- src/service27.rt:87:15
 
 pub returns-then-not-key_fits : goal.returns-then-not-key_fits
 returns-then-not-key_fits c = let a = c.args in λ v.
@@ -25,7 +22,6 @@ returns-then-not-key_fits c = let a = c.args in λ v.
     let few = few-locks u.security (ready-security u.config u.security u.now c.requires.0) in
     record { asked = key_misfit u a.level few c.is_locked.result c.is_locked.ensures c.if-is_locked.false c.awaits.result c.awaits.ensures c.if-not-awaits.false c.key_fits.result c.key_fits.ensures c.if-not-key_fits.true }
 
--- src/service27.rt:92:12
 
 pub returns : goal.returns
 returns c = let a = c.args in λ v.

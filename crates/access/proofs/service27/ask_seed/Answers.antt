@@ -1,4 +1,3 @@
--- src/service27.rt:49:8
 use Rattle.std.proofs.Common.{refl}
 use Rattle.uds.specs.Table.{row_of}
 use Rattle.config.specs.View.{level_at}
@@ -12,7 +11,6 @@ returns-then-is_locked c = let a = c.args in λ v.
     let few = few-locks u.security (ready-security u.config u.security u.now c.requires) in
     record { asked = seed-locked u a.level few c.is_locked.result c.is_locked.ensures c.if-is_locked.true }
 
--- src/service27.rt:52:24
 
 pub returns-in_default : goal.returns-in_default
 returns-in_default c = let a = c.args in λ v.
@@ -20,7 +18,6 @@ returns-in_default c = let a = c.args in λ v.
     let few = few-locks u.security (ready-security u.config u.security u.now c.requires) in
     record { asked = seed_unknown u a.level few c.is_locked.result c.is_locked.ensures c.if-is_locked.false (row_of (level_at a.config.now) c.find_security_level.result) c.find_security_level.ensures.row (rw c.in_default.is refl) }
 
--- src/service27.rt:56:12
 
 pub returns : goal.returns
 returns c = let a = c.args in λ v.

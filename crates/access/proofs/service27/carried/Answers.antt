@@ -1,4 +1,3 @@
--- src/service27.rt:216:13
 use Rattle.std.proofs.Common.{ap, ◌∙◌}
 use Rattle.queue.specs.declared.reply.Reply.TheVariants.{Negative}
 use Rattle.state.specs.declared.apply.Effect.{Effect}
@@ -17,7 +16,6 @@ returns-then-access-eq1 c = let a = c.args in (
   ap (λ (x : Effect). x.waits) c.says.ensures,
 )
 
--- src/service27.rt:219:9
 
 pub returns-then-code-eq0 : goal.returns-then-code-eq0
 returns-then-code-eq0 c = let a = c.args in (
@@ -28,7 +26,6 @@ returns-then-code-eq0 c = let a = c.args in (
   ap (λ (x : Effect). x.waits) c.says-then-code-eq0.ensures,
 )
 
--- src/service27.rt:224:9
 
 pub returns : goal.returns
 returns c = let a = c.args in (

@@ -1,4 +1,3 @@
--- src/service27.rt:172:5
 use Rattle.std.proofs.Common.{ap, arith, ◌∙◌}
 use Rattle.model.specs.Config.{find_level, max_attempts_of, lockout_of}
 use Rattle.config.specs.View.{config_of}
@@ -15,7 +14,6 @@ returns-then-not-increment c = let a = c.args in λ v.
     let full = uncounted a.k.now _ _ a.level sec c.clear.ensures c.increment.result c.increment.ensures c.if-not-increment.true in
     denied-full u a.level row _ _ full.0 full.1
 
--- src/service27.rt:176:9
 
 pub returns-then-failed_count-most : goal.returns-then-failed_count-most
 returns-then-failed_count-most c = let a = c.args in λ v.
@@ -27,7 +25,6 @@ returns-then-failed_count-most c = let a = c.args in λ v.
     let n = c.failed_count.result in
     denied-key u a.level row _ _ (raised a.k.now _ _ a.level sec c.clear.ensures c.increment.result c.increment.ensures up) n (its-count a.k.now _ _ a.level sec c.clear.ensures c.increment.result c.increment.ensures up n c.failed_count.ensures) _ (omega (arith, most, c.if-failed_count-most.true)) (counts a.k.now _ _ a.level sec c.clear.ensures c.increment.result c.increment.ensures up)
 
--- src/service27.rt:181:24
 
 pub returns-then-not-lock : goal.returns-then-not-lock
 returns-then-not-lock c = let a = c.args in λ v.
@@ -42,7 +39,6 @@ returns-then-not-lock c = let a = c.args in λ v.
     denied-unlocked u a.level row _ _ (raised a.k.now _ _ a.level sec c.clear.ensures c.increment.result c.increment.ensures up) n (its-count a.k.now _ _ a.level sec c.clear.ensures c.increment.result c.increment.ensures up n c.failed_count.ensures) _ (omega (arith, most, c.if-failed_count-most.false)) end
     (the_sum (config_of a.config.now) u.security a.t.0 a.level c.lockout.result.0 end c.requires (c.lockout.ensures ∙ ap lockout_of c.find_security_level-found.ensures.row) c.plus-until.ensures) full.0 full.1
 
--- src/service27.rt:168:1
 
 pub returns : goal.returns
 returns c = let a = c.args in λ v.

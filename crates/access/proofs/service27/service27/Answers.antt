@@ -1,4 +1,3 @@
--- src/service27.rt:243:9
 use Rattle.std.proofs.Common.{ap₂, sym, ℕ, ◌∙◌}
 use mathlib.Core.Bool.{false≢true}
 use Rattle.model.specs.Numbers.{max_frame}
@@ -16,7 +15,6 @@ returns-then-not-ready c = let a = c.args in λ v subs.
     let u = seen access27 w a.session a.level a.subscriptions a.frames a.k.now subs a.room.now in
     serves_refused access27 w a.session a.level a.subscriptions a.frames a.k.now subs a.room.now 0x22 c.refused.result c.refused.ensures (refused-access u (sym c.ready.ensures ∙ c.if-not-ready.true))
 
--- src/service27.rt:246:11
 
 pub returns-in-Refused : goal.returns-in-Refused
 returns-in-Refused c = let a = c.args in λ v subs.
@@ -24,7 +22,6 @@ returns-in-Refused c = let a = c.args in λ v subs.
     let u = seen access27 w a.session a.level a.subscriptions a.frames a.k.now subs a.room.now in
     serves_refused access27 w a.session a.level a.subscriptions a.frames a.k.now subs a.room.now c.in-Refused.code c.refused-in-Refused.result c.refused-in-Refused.ensures (ready-access u (sym c.ready.ensures ∙ c.if-not-ready.false) ∙ rw c.in-Refused.is at (c.ask_access.ensures u).asked)
 
--- src/service27.rt:228:1
 
 pub returns-in-Asks : goal.returns-in-Asks
 returns-in-Asks c = let a = c.args in λ v subs.

@@ -1,4 +1,3 @@
--- src/service2F.rt:36:9
 use Rattle.std.proofs.Common.{List, ap, false, sym, ℕ, ◌++◌}
 use Rattle.model.specs.Queue.{positive}
 use Rattle.model.specs.Service2F.{controlled, service2F}

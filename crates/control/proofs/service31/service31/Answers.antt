@@ -1,4 +1,3 @@
--- src/service31.rt:36:9
 use Rattle.std.proofs.Common.{sym, ◌∷◌}
 use Rattle.model.specs.Tests.{pick}
 use Rattle.model.specs.Queue.{silent, positive}

@@ -1,4 +1,3 @@
--- src/service10.rt:54:9
 use Rattle.std.proofs.Common.{ap, ap₂, refl, sym, ◌∙◌}
 use mathlib.Core.Bool.{false≢true}
 use Rattle.model.specs.Numbers.{max_frame}
@@ -18,16 +17,12 @@ returns-then-payload-lt1 c = let a = c.args in λ v k subs.
     let w = asking a.payload.now (configured a.config.now v) in
     serves_refused service10 w a.session a.level a.subscriptions a.frames k subs a.room.now 0x13 c.refused.result c.refused.ensures (short10 (seen service10 w a.session a.level a.subscriptions a.frames k subs a.room.now) c.if-payload-lt1.true)
 
--- src/service10.rt:61:9
-
 pub returns-in_default : goal.returns-in_default
 returns-in_default c = let a = c.args in λ v k subs.
     let w = asking a.payload.now (configured a.config.now v) in
     let u = seen service10 w a.session a.level a.subscriptions a.frames k subs a.room.now in
     serves_refused service10 w a.session a.level a.subscriptions a.frames k subs a.room.now 0x12 c.refused-in_default.result c.refused-in_default.ensures
     (unknown10 u c.if-payload-lt1.false c.sub_function-kind.result c.sub_function-kind.ensures (row_of (session_at a.config.now) c.find_session-found.result) c.find_session-found.ensures.row (rw c.in_default.is refl))
-
--- src/service10.rt:71:9
 
 pub returns : goal.returns
 returns c = let a = c.args in λ v k subs.

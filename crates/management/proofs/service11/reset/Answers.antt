@@ -1,4 +1,3 @@
--- src/service11.rt:50:9
 use Rattle.std.proofs.Common.{ap, sym, true, ◌∙◌}
 use Rattle.model.specs.Numbers.{max_frame}
 use Rattle.model.specs.State.{opened, cleared}
@@ -15,8 +14,6 @@ returns-then-code-ne0 c = let a = c.args in λ v k subs b.
     let w = asking a.payload.now v in
     let u = seen service11 w a.session a.level a.subscriptions a.frames k subs a.room.now in
     leaves-effect service11 w a.session a.level a.subscriptions a.frames k subs a.room.now k a.level _ c.echoed-reply.result c.says.result _ c.says.ensures (leaves u a.frames a.room.now k a.level _ _ c.echoed-reply.result _ (fails11 u a.code b c.if-code-ne0.true) c.echoed-reply.ensures)
-
--- src/service11.rt:39:1
 
 pub returns : goal.returns
 returns c = let a = c.args in λ v k subs b.

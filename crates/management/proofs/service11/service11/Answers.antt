@@ -1,4 +1,3 @@
--- src/service11.rt:75:11
 use Rattle.std.proofs.Common.{ap, refl, ◌∙◌}
 use Rattle.model.specs.Numbers.{max_frame}
 use Rattle.model.specs.Values.{Outcome}
@@ -13,8 +12,6 @@ pub returns-in-Refused : goal.returns-in-Refused
 returns-in-Refused c = let a = c.args in λ v k subs.
     let w = asking a.payload.now (handed a.err a.given.now v) in
     serves_refused service11 w a.session a.level a.subscriptions a.frames k subs a.room.now c.in-Refused.code c.refused.result c.refused.ensures (rw c.in-Refused.is at (c.ask11.ensures (seen service11 w a.session a.level a.subscriptions a.frames k subs a.room.now)).asked)
-
--- src/service11.rt:63:1
 
 pub returns-in-Asks : goal.returns-in-Asks
 returns-in-Asks c = let a = c.args in λ v k subs.

@@ -1,4 +1,3 @@
--- src/service28.rt:36:11
 use Rattle.std.proofs.Common.{[], refl, ◌∷◌}
 use Rattle.model.specs.Frame.{suppressed, sub_function}
 use Rattle.model.specs.Service28.{communication, service28}
@@ -11,8 +10,6 @@ pub returns-in-Refused : goal.returns-in-Refused
 returns-in-Refused c = let a = c.args in λ v.
     let w = handed a.err a.given.now v in
     speaks_refused service28 later28 (asking a.payload.now w) a.frames a.room.now c.in-Refused.code c.none.result (record { asked = rw c.in-Refused.is at (c.ask28.ensures w).asked }) c.none.ensures
-
--- src/service28.rt:33:1
 
 pub returns-in-Asks : goal.returns-in-Asks
 returns-in-Asks c = let a = c.args in λ v.

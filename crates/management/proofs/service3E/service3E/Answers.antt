@@ -1,4 +1,3 @@
--- src/service3E.rt:13:9
 use Rattle.std.proofs.Common.{[], ◌∷◌}
 use Rattle.model.specs.Frame.{suppressed, sub_function}
 use Rattle.model.specs.Service3E.{service3E}

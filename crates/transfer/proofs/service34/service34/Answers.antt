@@ -1,4 +1,3 @@
--- src/service34.rt:44:9
 use Rattle.std.proofs.Common.{false, refl}
 use Rattle.model.specs.Queue.{positive}
 use Rattle.model.specs.Service34.{service34}

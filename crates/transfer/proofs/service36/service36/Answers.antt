@@ -1,4 +1,3 @@
--- src/service36.rt:36:9
 use Rattle.std.proofs.Common.{ap, false, sym, ℕ, ◌∷◌}
 use Rattle.model.specs.Queue.{positive}
 use Rattle.model.specs.Service36.{transferred, service36}

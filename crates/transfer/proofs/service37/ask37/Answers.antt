@@ -1,4 +1,3 @@
--- src/service37.rt:20:12
 use Rattle.transfer.proofs.Laws.{asks37}
 use Rattle.transfer.proofs.service37.ask37.Goals as goal
 

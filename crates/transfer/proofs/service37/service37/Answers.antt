@@ -1,4 +1,3 @@
--- src/service37.rt:31:9
 use Rattle.std.proofs.Common.{false, refl}
 use Rattle.model.specs.Queue.{positive}
 use Rattle.model.specs.Service37.{service37}

@@ -1,4 +1,3 @@
--- src/service38.rt:48:9
 use Rattle.std.proofs.Common.{false, refl}
 use Rattle.model.specs.Queue.{positive}
 use Rattle.model.specs.Service38.{service38}
