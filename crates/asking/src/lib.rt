@@ -1,5 +1,6 @@
 // Which act a request would ask: the services' own questions behind one function, and the rules that come right before them. It only reads.
 #![tactic(auto)]
+
 ghost use Rattle.std.specs.Prelude.{◌≡◌};
 ghost use Rattle.model.specs.Service.{Seen, Effect};
 ghost use Rattle.service.specs.Act.{act_of, asked_of};

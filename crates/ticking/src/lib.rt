@@ -1,6 +1,7 @@
 // A tick's three steps: S3, the pending request, the due subscriptions. What a step may change goes by value or is lent, and the server takes them in
 // this order. Every promise is an equation to the definition in the crate `model`.
 #![tactic(auto)]
+
 ghost use Rattle.std.specs.Prelude.{◌≡◌, ◌<◌, ◌≤◌, ◌∷◌};
 ghost use Rattle.model.specs.Numbers.{max_frame, max_periodic};
 ghost use Rattle.model.specs.Queue as Definition;
