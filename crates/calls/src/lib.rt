@@ -1,6 +1,7 @@
 // The calls by the lent door: the state goes by value, and all else is lent: the configuration, the security record, the subscriptions, the heads of the
 // frames that wait and the room that they wait in.
 #![tactic(auto)]
+
 pub mod drain;
 pub mod pending;
 pub mod question;
