@@ -26,7 +26,7 @@ pub struct Asked {
 }
 
 fn nothing(res: u8) -> Asked
-    ensures* { λ r. ⌜ asked_of r ≡ record { result = res; act = no_act } ⌝ }
+    ensures { asked_of result ≡ record { result = res; act = no_act } }
 {
     Asked {
         act: Act::none(),

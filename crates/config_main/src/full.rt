@@ -78,7 +78,7 @@ fn levels(mut c: Config) -> Config {
 }
 
 // The first row's key, the last row's, the one that is there twice, the one that is missing.
-fn rows(rt: &impl Print, c: &Config) -> io::Result<()> {
+fn rows(rt: &HostRuntime, c: &Config) -> io::Result<()> {
     show::session(rt, c, 0)?;
     show::session(rt, c, 7)?;
     show::session(rt, c, 1)?;
@@ -90,7 +90,7 @@ fn rows(rt: &impl Print, c: &Config) -> io::Result<()> {
     Ok(())
 }
 
-fn more_rows(rt: &impl Print, c: &Config) -> io::Result<()> {
+fn more_rows(rt: &HostRuntime, c: &Config) -> io::Result<()> {
     show::did(rt, c, 0)?;
     show::did(rt, c, 127)?;
     show::did(rt, c, 1)?;
@@ -103,7 +103,7 @@ fn more_rows(rt: &impl Print, c: &Config) -> io::Result<()> {
 }
 
 // What the last rows say, and the last entry of a list.
-fn last(rt: &impl Print, c: &Config) -> io::Result<()> {
+fn last(rt: &HostRuntime, c: &Config) -> io::Result<()> {
     let s = config::p2(c, config::find_session(c, 7));
     value(rt, b"P2 of session 7", s.0)?;
     let t = config::s3(c, config::find_session(c, 5));
@@ -132,7 +132,7 @@ fn last(rt: &impl Print, c: &Config) -> io::Result<()> {
 }
 
 // One more than there is room for.
-fn past(rt: &impl Print, c: Config) -> io::Result<()> {
+fn past(rt: &HostRuntime, c: Config) -> io::Result<()> {
     let d = build::with_session(c, SessionConfig::default_session());
     flag(rt, b"a ninth session", config::within(&d))?;
     let e = build::with_service(c, ServiceConfig::new(99, b"\x01"));
@@ -143,7 +143,7 @@ fn past(rt: &impl Print, c: Config) -> io::Result<()> {
 }
 
 // Rows that do not keep the numbers.
-fn outside(rt: &impl Print) -> io::Result<()> {
+fn outside(rt: &HostRuntime) -> io::Result<()> {
     let c = build::new(1, 2);
     let d = build::with_service(c, ServiceConfig::new(1, b"123456789"));
     flag(rt, b"a list of nine", config::within(&d))?;
@@ -153,7 +153,7 @@ fn outside(rt: &impl Print) -> io::Result<()> {
     Ok(())
 }
 
-pub(crate) fn run(rt: &impl Print) -> io::Result<()> {
+pub(crate) fn run(rt: &HostRuntime) -> io::Result<()> {
     let c = levels(dids(services(sessions(build::new(1, 2)))));
     flag(rt, b"full: within", config::within(&c))?;
     rows(rt, &c)?;

@@ -10,7 +10,7 @@ use lines::Line;
 use show::flag;
 use std::io;
 
-fn rows(rt: &impl Print, c: &Config) -> io::Result<()> {
+fn rows(rt: &HostRuntime, c: &Config) -> io::Result<()> {
     show::session(rt, c, 1)?;
     show::session(rt, c, 3)?;
     show::session(rt, c, 8)?;
@@ -21,7 +21,7 @@ fn rows(rt: &impl Print, c: &Config) -> io::Result<()> {
     Ok(())
 }
 
-fn more_rows(rt: &impl Print, c: &Config) -> io::Result<()> {
+fn more_rows(rt: &HostRuntime, c: &Config) -> io::Result<()> {
     show::did(rt, c, 0xF190)?;
     show::did(rt, c, 0xF201)?;
     show::did(rt, c, 0xF202)?;
@@ -30,7 +30,7 @@ fn more_rows(rt: &impl Print, c: &Config) -> io::Result<()> {
     Ok(())
 }
 
-fn sessions_listed(rt: &impl Print, c: &Config) -> io::Result<()> {
+fn sessions_listed(rt: &HostRuntime, c: &Config) -> io::Result<()> {
     flag(rt, b"3E in session 3", config::service_allowed(c, 0x3E, 3))?;
     flag(rt, b"3E in session 2", config::service_allowed(c, 0x3E, 2))?;
     flag(

@@ -5,7 +5,7 @@ use std::io;
 use uds::table::{Found, examined};
 
 // What was looked up, its key, the row, and the rows examined.
-fn line(rt: &impl Print, what: &[u8], key: u64, found: Found, rows: usize) -> io::Result<()> {
+fn line(rt: &HostRuntime, what: &[u8], key: u64, found: Found, rows: usize) -> io::Result<()> {
     row(Line::new().text(what).number(key).text(b":"), found)
         .text(b",")
         .number(examined(found, rows) as u64)
@@ -21,7 +21,7 @@ fn row(line: Line, found: Found) -> Line {
     line.number(i as u64)
 }
 
-pub(crate) fn session(rt: &impl Print, c: &Config, key: u8) -> io::Result<()> {
+pub(crate) fn session(rt: &HostRuntime, c: &Config, key: u8) -> io::Result<()> {
     line(
         rt,
         b"session",
@@ -32,7 +32,7 @@ pub(crate) fn session(rt: &impl Print, c: &Config, key: u8) -> io::Result<()> {
     Ok(())
 }
 
-pub(crate) fn service(rt: &impl Print, c: &Config, key: u8) -> io::Result<()> {
+pub(crate) fn service(rt: &HostRuntime, c: &Config, key: u8) -> io::Result<()> {
     line(
         rt,
         b"service",
@@ -43,7 +43,7 @@ pub(crate) fn service(rt: &impl Print, c: &Config, key: u8) -> io::Result<()> {
     Ok(())
 }
 
-pub(crate) fn did(rt: &impl Print, c: &Config, key: u16) -> io::Result<()> {
+pub(crate) fn did(rt: &HostRuntime, c: &Config, key: u16) -> io::Result<()> {
     line(
         rt,
         b"identifier",
@@ -54,7 +54,7 @@ pub(crate) fn did(rt: &impl Print, c: &Config, key: u16) -> io::Result<()> {
     Ok(())
 }
 
-pub(crate) fn level(rt: &impl Print, c: &Config, key: u8) -> io::Result<()> {
+pub(crate) fn level(rt: &HostRuntime, c: &Config, key: u8) -> io::Result<()> {
     line(
         rt,
         b"level",
@@ -65,7 +65,7 @@ pub(crate) fn level(rt: &impl Print, c: &Config, key: u8) -> io::Result<()> {
     Ok(())
 }
 
-pub(crate) fn flag(rt: &impl Print, what: &[u8], yes: bool) -> io::Result<()> {
+pub(crate) fn flag(rt: &HostRuntime, what: &[u8], yes: bool) -> io::Result<()> {
     if yes {
         Line::new().text(what).text(b": yes").print(rt)?;
     } else {
@@ -74,7 +74,7 @@ pub(crate) fn flag(rt: &impl Print, what: &[u8], yes: bool) -> io::Result<()> {
     Ok(())
 }
 
-pub(crate) fn value(rt: &impl Print, what: &[u8], n: u64) -> io::Result<()> {
+pub(crate) fn value(rt: &HostRuntime, what: &[u8], n: u64) -> io::Result<()> {
     Line::new().text(what).text(b":").number(n).print(rt)?;
     Ok(())
 }

@@ -47,7 +47,7 @@ fn reply(line: Line, reply: Reply, room: &Room) -> Line {
 }
 
 // The answer to a question.
-fn asked(rt: &impl Print, ask: Ask) -> io::Result<()> {
+fn asked(rt: &HostRuntime, ask: Ask) -> io::Result<()> {
     let line = match ask {
         Ask::Refused(code) => Line::new().word(b"refused").hex(&[code]),
         Ask::Asks(asks) => act(Line::new().word(b"asks"), asks),
@@ -57,7 +57,7 @@ fn asked(rt: &impl Print, ask: Ask) -> io::Result<()> {
 }
 
 // The answer to a request.
-fn spoken(rt: &impl Print, spoken: Spoken, room: &Room) -> io::Result<()> {
+fn spoken(rt: &HostRuntime, spoken: Spoken, room: &Room) -> io::Result<()> {
     let acts = spoken.act;
     let says = spoken.reply;
     reply(act(Line::new(), acts), says, room).print(rt)?;
@@ -65,7 +65,7 @@ fn spoken(rt: &impl Print, spoken: Spoken, room: &Room) -> io::Result<()> {
 }
 
 // Two lines: what is asked, and the answer.
-fn run2F(rt: &impl Print, payload: &[u8], err: u8, given: &[u8]) -> io::Result<()> {
+fn run2F(rt: &HostRuntime, payload: &[u8], err: u8, given: &[u8]) -> io::Result<()> {
     let mut room = [0u8; 4353];
     asked(rt, control::service2F::ask2F(payload))?;
     let answer = control::service2F::service2F(0, payload, err, given, &mut room);
@@ -74,7 +74,7 @@ fn run2F(rt: &impl Print, payload: &[u8], err: u8, given: &[u8]) -> io::Result<(
 }
 
 // Two lines: what is asked, and the answer.
-fn run31(rt: &impl Print, payload: &[u8], err: u8, given: &[u8]) -> io::Result<()> {
+fn run31(rt: &HostRuntime, payload: &[u8], err: u8, given: &[u8]) -> io::Result<()> {
     let mut room = [0u8; 4353];
     asked(rt, control::service31::ask31(payload))?;
     let answer = control::service31::service31(0, payload, err, given, &mut room);
@@ -83,7 +83,7 @@ fn run31(rt: &impl Print, payload: &[u8], err: u8, given: &[u8]) -> io::Result<(
 }
 
 // Short payloads, no state, a state, the longest.
-fn payloads2F(rt: &impl Print) -> io::Result<()> {
+fn payloads2F(rt: &HostRuntime) -> io::Result<()> {
     let long = [0x07u8; 4094];
     run2F(rt, &[], 0, &[])?;
     run2F(rt, &[0xF1, 0x90], 0, &[])?;
@@ -94,7 +94,7 @@ fn payloads2F(rt: &impl Print) -> io::Result<()> {
 }
 
 // Acts that fill a reply, that are a byte over, of 256 and 257 bytes, errors, a pending one.
-fn acts2F(rt: &impl Print) -> io::Result<()> {
+fn acts2F(rt: &HostRuntime) -> io::Result<()> {
     let bytes = [0x5Au8; 257];
     run2F(rt, &[0x12, 0x34, 0x00], 0, &bytes[..254])?;
     run2F(rt, &[0x12, 0x34, 0x00], 0, &bytes[..255])?;
@@ -107,7 +107,7 @@ fn acts2F(rt: &impl Print) -> io::Result<()> {
 }
 
 // Short payloads, no option, an option, sub-functions suppressed or not, the longest.
-fn payloads31(rt: &impl Print) -> io::Result<()> {
+fn payloads31(rt: &HostRuntime) -> io::Result<()> {
     let long = [0x07u8; 4094];
     run31(rt, &[], 0, &[])?;
     run31(rt, &[0x01, 0x02], 0, &[])?;
@@ -122,7 +122,7 @@ fn payloads31(rt: &impl Print) -> io::Result<()> {
 }
 
 // Acts that fill a reply, that are a byte over, of 256 and 257 bytes, errors, a pending one.
-fn acts31(rt: &impl Print) -> io::Result<()> {
+fn acts31(rt: &HostRuntime) -> io::Result<()> {
     let bytes = [0x5Au8; 257];
     run31(rt, &[0x01, 0xAB, 0xCD], 0, &bytes[..253])?;
     run31(rt, &[0x01, 0xAB, 0xCD], 0, &bytes[..254])?;
@@ -134,7 +134,7 @@ fn acts31(rt: &impl Print) -> io::Result<()> {
 }
 
 // The same, suppressed.
-fn suppressed31(rt: &impl Print) -> io::Result<()> {
+fn suppressed31(rt: &HostRuntime) -> io::Result<()> {
     let bytes = [0x5Au8; 257];
     run31(rt, &[0x81, 0xAB, 0xCD], 0, &bytes[..253])?;
     run31(rt, &[0x81, 0xAB, 0xCD], 0, &bytes[..254])?;

@@ -9,7 +9,7 @@ use uds::clock::Instant;
 
 // Asked at a time, of an outcome, and what is left of the words.
 fn access(
-    rt: &impl Print,
+    rt: &HostRuntime,
     what: &[u8],
     c: &Config,
     k: &mut Security,
@@ -26,7 +26,7 @@ fn access(
 }
 
 // Short, access type 0, a level that has no row; the suppress bit is ignored.
-fn types(rt: &impl Print, c: &Config) -> io::Result<()> {
+fn types(rt: &HostRuntime, c: &Config) -> io::Result<()> {
     let mut k: Security = [0; 68];
     access(rt, b"27:", c, &mut k, b"", 1000, 0, b"")?;
     access(rt, b"27 00:", c, &mut k, b"\x00", 1000, 0, b"")?;
@@ -37,7 +37,7 @@ fn types(rt: &impl Print, c: &Config) -> io::Result<()> {
 }
 
 // Seeds of 31 bytes, an error, of 30, and of 32.
-fn seeds(rt: &impl Print, c: &Config) -> io::Result<()> {
+fn seeds(rt: &HostRuntime, c: &Config) -> io::Result<()> {
     let mut k: Security = [0; 68];
     access(
         rt,
@@ -95,7 +95,7 @@ fn waiting(level: u64, count: u64) -> Security {
 }
 
 // Keys a byte short and a byte long, of a level that awaits none, and an accepted one.
-fn keys(rt: &impl Print, c: &Config) -> io::Result<()> {
+fn keys(rt: &HostRuntime, c: &Config) -> io::Result<()> {
     let mut k = waiting(5, 2);
     access(
         rt,
@@ -150,14 +150,14 @@ fn keys(rt: &impl Print, c: &Config) -> io::Result<()> {
     Ok(())
 }
 
-fn refused(rt: &impl Print, what: &[u8], c: &Config, count: u64, t: u64) -> io::Result<()> {
+fn refused(rt: &HostRuntime, what: &[u8], c: &Config, count: u64, t: u64) -> io::Result<()> {
     let mut k = waiting(5, count);
     access(rt, what, c, &mut k, b"\x06\x01\x02\x03\x04", t, 0x10, b"")?;
     Ok(())
 }
 
 // Refused keys below the limit of 255, at it, and above; then locked until 11000, and no longer at 11000.
-fn counts(rt: &impl Print, c: &Config) -> io::Result<()> {
+fn counts(rt: &HostRuntime, c: &Config) -> io::Result<()> {
     refused(rt, b"refused after 253:", c, 253, 1000)?;
     refused(rt, b"refused after 254:", c, 254, 1000)?;
     refused(rt, b"refused after 255:", c, 255, 1000)?;
@@ -206,7 +206,7 @@ fn counts(rt: &impl Print, c: &Config) -> io::Result<()> {
 }
 
 // Lists that are full, words that are none, and the last time that a call takes.
-fn edges(rt: &impl Print, c: &Config) -> io::Result<()> {
+fn edges(rt: &HostRuntime, c: &Config) -> io::Result<()> {
     let mut k = waiting(1, 1);
     k[2] = 8;
     access(
@@ -248,7 +248,7 @@ fn edges(rt: &impl Print, c: &Config) -> io::Result<()> {
     Ok(())
 }
 
-pub(crate) fn run(rt: &impl Print, c: &Config) -> io::Result<()> {
+pub(crate) fn run(rt: &HostRuntime, c: &Config) -> io::Result<()> {
     types(rt, c)?;
     seeds(rt, c)?;
     keys(rt, c)?;

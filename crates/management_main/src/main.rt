@@ -47,7 +47,7 @@ fn asked(line: Line, act: Act) -> Line {
     placed(placed(parts, a), b)
 }
 
-fn spoken(rt: &impl Print, what: &[u8], s: Spoken, room: &Room) -> io::Result<()> {
+fn spoken(rt: &HostRuntime, what: &[u8], s: Spoken, room: &Room) -> io::Result<()> {
     let reply = s.reply;
     let act = s.act;
     let line = replied(Line::new().text(what), reply, room);
@@ -55,7 +55,7 @@ fn spoken(rt: &impl Print, what: &[u8], s: Spoken, room: &Room) -> io::Result<()
     Ok(())
 }
 
-fn wanted(rt: &impl Print, what: &[u8], w: Wanted, room: &Room) -> io::Result<()> {
+fn wanted(rt: &HostRuntime, what: &[u8], w: Wanted, room: &Room) -> io::Result<()> {
     let e = w.effect;
     let reply = e.reply;
     let act = w.act;
@@ -70,7 +70,7 @@ fn wanted(rt: &impl Print, what: &[u8], w: Wanted, room: &Room) -> io::Result<()
     Ok(())
 }
 
-fn words(rt: &impl Print, k: &Security) -> io::Result<()> {
+fn words(rt: &HostRuntime, k: &Security) -> io::Result<()> {
     Line::new()
         .text(b"  seed")
         .number(k[1])

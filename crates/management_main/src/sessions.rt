@@ -8,21 +8,21 @@ use management::service28::service28;
 use queue::Room;
 use std::io;
 
-fn tester_present(rt: &impl Print, what: &[u8], payload: &[u8]) -> io::Result<()> {
+fn tester_present(rt: &HostRuntime, what: &[u8], payload: &[u8]) -> io::Result<()> {
     let mut room: Room = [0; 4353];
     let s = service3E(0, payload, &mut room);
     spoken(rt, what, s, &room)?;
     Ok(())
 }
 
-fn session(rt: &impl Print, what: &[u8], c: &Config, payload: &[u8]) -> io::Result<()> {
+fn session(rt: &HostRuntime, what: &[u8], c: &Config, payload: &[u8]) -> io::Result<()> {
     let mut room: Room = [0; 4353];
     let w = service10(c, 1, 2, 0, 0, payload, &mut room);
     wanted(rt, what, w, &room)?;
     Ok(())
 }
 
-fn reset(rt: &impl Print, what: &[u8], payload: &[u8], err: u8, given: &[u8]) -> io::Result<()> {
+fn reset(rt: &HostRuntime, what: &[u8], payload: &[u8], err: u8, given: &[u8]) -> io::Result<()> {
     let mut room: Room = [0; 4353];
     let w = service11(1, 2, 0, 0, payload, err, given, &mut room);
     wanted(rt, what, w, &room)?;
@@ -30,7 +30,7 @@ fn reset(rt: &impl Print, what: &[u8], payload: &[u8], err: u8, given: &[u8]) ->
 }
 
 fn communication(
-    rt: &impl Print,
+    rt: &HostRuntime,
     what: &[u8],
     payload: &[u8],
     err: u8,
@@ -42,7 +42,7 @@ fn communication(
     Ok(())
 }
 
-pub(crate) fn run(rt: &impl Print, c: &Config) -> io::Result<()> {
+pub(crate) fn run(rt: &HostRuntime, c: &Config) -> io::Result<()> {
     tester_present(rt, b"3E 00:", b"\x00")?;
     tester_present(rt, b"3E:", b"")?;
     tester_present(rt, b"3E 80:", b"\x80")?;

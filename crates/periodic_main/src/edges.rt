@@ -5,13 +5,13 @@ use periodic::Subscriptions;
 use std::io;
 use uds::clock::{Duration, Instant};
 
-fn text(rt: &impl Print, t: &[u8]) -> io::Result<()> {
+fn text(rt: &HostRuntime, t: &[u8]) -> io::Result<()> {
     Line::new().text(t).print(rt)?;
     Ok(())
 }
 
 // Due at equality and one before; of the second entry, and of one that does not stand; and after the entry was advanced.
-pub(crate) fn due(rt: &impl Print) -> io::Result<()> {
+pub(crate) fn due(rt: &HostRuntime) -> io::Result<()> {
     let mut subs = [0u64; 64];
     periodic::register(&mut subs, 0, 61953, 3712, Duration(2000), Instant(100));
     periodic::register(&mut subs, 1, 61954, 3713, Duration(500), Instant(100));
@@ -42,7 +42,7 @@ pub(crate) fn due(rt: &impl Print) -> io::Result<()> {
 }
 
 // A moment past the last one is the last.
-pub(crate) fn last_moment(rt: &impl Print) -> io::Result<()> {
+pub(crate) fn last_moment(rt: &HostRuntime) -> io::Result<()> {
     let mut subs = [0u64; 64];
     register(
         rt,
@@ -96,7 +96,7 @@ fn one_valid(interval: u64, next: u64) -> bool {
 }
 
 // Intervals and moments at the greatest and one above; and what does not stand is not looked at.
-pub(crate) fn valid(rt: &impl Print) -> io::Result<()> {
+pub(crate) fn valid(rt: &HostRuntime) -> io::Result<()> {
     Line::new()
         .text(b"interval 2^32 - 1, 2^32:")
         .flag(one_valid(0xFFFF_FFFF, 0))
@@ -119,7 +119,7 @@ pub(crate) fn valid(rt: &impl Print) -> io::Result<()> {
 }
 
 // An identifier is the low 16 bits of its word and a client the low 32; past the words all is 0.
-pub(crate) fn wide(rt: &impl Print) -> io::Result<()> {
+pub(crate) fn wide(rt: &HostRuntime) -> io::Result<()> {
     let mut subs = [0u64; 64];
     subs[0] = 0x1_F201;
     subs[1] = 0x1_0000_0E80;

@@ -13,7 +13,7 @@ use std::io;
 use uds::clock::{Duration, Instant};
 
 // Two clients and two identifiers at 100; the second renewed at 300; the first cancelled, so that the others move up in their order.
-fn several(rt: &impl Print) -> io::Result<()> {
+fn several(rt: &HostRuntime) -> io::Result<()> {
     let mut subs = [0u64; 64];
     let fresh = PeriodicState::new().count;
     Line::new().text(b"fresh:").number(fresh as u64).print(rt)?;
@@ -36,7 +36,7 @@ fn several(rt: &impl Print) -> io::Result<()> {
 }
 
 // A table handed in that has a subscription twice: the first is renewed, and both are cancelled.
-fn twice(rt: &impl Print) -> io::Result<()> {
+fn twice(rt: &HostRuntime) -> io::Result<()> {
     let mut subs = [0u64; 64];
     subs[0] = 61953;
     subs[1] = 3712;
@@ -77,7 +77,7 @@ fn fifteen(subs: &mut Subscriptions) -> u8 {
 }
 
 // The sixteenth has room and a seventeenth has not; what stands is renewed all the same; and one from the middle cancelled.
-fn full(rt: &impl Print) -> io::Result<()> {
+fn full(rt: &HostRuntime) -> io::Result<()> {
     let mut subs = [0u64; 64];
     let count = fifteen(&mut subs);
     let most = register(rt, b"sixteenth:", &mut subs, count, 61967, 3712, 15, 1000)?;
@@ -93,7 +93,7 @@ fn full(rt: &impl Print) -> io::Result<()> {
 }
 
 // A count that no table has: all is refused, and the seventeenth entry is one of zeros.
-fn past(rt: &impl Print) -> io::Result<()> {
+fn past(rt: &HostRuntime) -> io::Result<()> {
     let mut subs = [0u64; 64];
     let count = fifteen(&mut subs);
     periodic::register(&mut subs, count, 61967, 3712, Duration(15), Instant(1000));

@@ -6,7 +6,7 @@ use uds::clock::{Duration, Instant};
 use uds::table::Found;
 
 // The number of an entry, and what it holds.
-pub(crate) fn entry(rt: &impl Print, subs: &Subscriptions, i: usize) -> io::Result<()> {
+pub(crate) fn entry(rt: &HostRuntime, subs: &Subscriptions, i: usize) -> io::Result<()> {
     let e = periodic::entry_at(subs, i);
     Line::new()
         .number(i as u64)
@@ -21,7 +21,7 @@ pub(crate) fn entry(rt: &impl Print, subs: &Subscriptions, i: usize) -> io::Resu
 
 // How many entries stand now, or `full`.
 pub(crate) fn register(
-    rt: &impl Print,
+    rt: &HostRuntime,
     what: &[u8],
     subs: &mut Subscriptions,
     count: u8,
@@ -49,7 +49,7 @@ pub(crate) fn register(
 
 // How many entries stand now.
 pub(crate) fn cancel(
-    rt: &impl Print,
+    rt: &HostRuntime,
     what: &[u8],
     subs: &mut Subscriptions,
     count: u8,
@@ -63,7 +63,7 @@ pub(crate) fn cancel(
 
 // The number of the entry, or `-`.
 pub(crate) fn find(
-    rt: &impl Print,
+    rt: &HostRuntime,
     what: &[u8],
     subs: &Subscriptions,
     count: u8,

@@ -8,7 +8,7 @@ use queue::{Heads, Room};
 use std::io;
 
 // One line: the answer to a push.
-fn told(rt: &impl Print, pushed: Pushed) -> io::Result<u8> {
+fn told(rt: &HostRuntime, pushed: Pushed) -> io::Result<u8> {
     Line::new()
         .number(pushed.result as u64)
         .number(pushed.count as u64)
@@ -17,7 +17,13 @@ fn told(rt: &impl Print, pushed: Pushed) -> io::Result<u8> {
 }
 
 // Two lines: the answer to a drain, and the buffer.
-fn drain(rt: &impl Print, count: u8, heads: &Heads, room: &Room, out: &mut [u8]) -> io::Result<()> {
+fn drain(
+    rt: &HostRuntime,
+    count: u8,
+    heads: &Heads,
+    room: &Room,
+    out: &mut [u8],
+) -> io::Result<()> {
     let drained = queue::drain::drain(count, heads, room, out);
     Line::new()
         .number(drained.result as u64)
@@ -29,7 +35,7 @@ fn drain(rt: &impl Print, count: u8, heads: &Heads, room: &Room, out: &mut [u8])
 }
 
 // A positive reply of three bytes to destination 3712.
-fn reply(rt: &impl Print, count: u8, heads: &mut Heads, room: &mut Room, i: u8) -> io::Result<u8> {
+fn reply(rt: &HostRuntime, count: u8, heads: &mut Heads, room: &mut Room, i: u8) -> io::Result<u8> {
     let drafted = queue::draft::extend(room, count, 0, &[i, 0xA5]);
     Ok(told(
         rt,
@@ -46,7 +52,7 @@ fn reply(rt: &impl Print, count: u8, heads: &mut Heads, room: &mut Room, i: u8) 
 }
 
 // Seventeen replies: the last finds sixteen waiting.
-fn seventeen(rt: &impl Print, heads: &mut Heads, room: &mut Room) -> io::Result<u8> {
+fn seventeen(rt: &HostRuntime, heads: &mut Heads, room: &mut Room) -> io::Result<u8> {
     let mut count = 0;
     let mut i: u8 = 0;
     while i < 17 {
@@ -57,7 +63,7 @@ fn seventeen(rt: &impl Print, heads: &mut Heads, room: &mut Room) -> io::Result<
 }
 
 // Sixteen records of eleven bytes, into a buffer that is a byte short, exactly full, and four bytes longer.
-fn full(rt: &impl Print) -> io::Result<()> {
+fn full(rt: &HostRuntime) -> io::Result<()> {
     let mut room = [0u8; 4353];
     let mut heads = [0u32; 32];
     let count = seventeen(rt, &mut heads, &mut room)?;
@@ -71,7 +77,7 @@ fn full(rt: &impl Print) -> io::Result<()> {
 }
 
 // Replies of 256 and of 257 bytes, the second refused with 0x14; a byte past what a reply in the making may hold; and a byte put.
-fn long(rt: &impl Print) -> io::Result<()> {
+fn long(rt: &HostRuntime) -> io::Result<()> {
     let mut room = [0u8; 4353];
     let mut heads = [0u32; 32];
     let bytes = [0x5Au8; 256];
@@ -104,7 +110,7 @@ fn long(rt: &impl Print) -> io::Result<()> {
 
 // A reply after a functional request, told.
 fn after(
-    rt: &impl Print,
+    rt: &HostRuntime,
     count: u8,
     heads: &mut Heads,
     room: &mut Room,
@@ -118,7 +124,7 @@ fn after(
 }
 
 // What is withheld after a functional request and what is sent all the same; and a periodic frame, of 256 bytes and of 257.
-fn functional(rt: &impl Print) -> io::Result<()> {
+fn functional(rt: &HostRuntime) -> io::Result<()> {
     let mut room = [0u8; 4353];
     let mut heads = [0u32; 32];
     let mut count = after(rt, 0, &mut heads, &mut room, 0x22, Reply::Negative(0x31))?;

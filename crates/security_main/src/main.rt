@@ -25,7 +25,7 @@ fn refused(k: &mut Security, level: u8, times: u16) {
     }
 }
 
-fn count(rt: &impl Print, what: &[u8], k: &Security, level: u8) -> io::Result<()> {
+fn count(rt: &HostRuntime, what: &[u8], k: &Security, level: u8) -> io::Result<()> {
     Line::new()
         .text(what)
         .number(security::failed_count(k, level))
@@ -34,7 +34,7 @@ fn count(rt: &impl Print, what: &[u8], k: &Security, level: u8) -> io::Result<()
 }
 
 // A count at 254, 255 and one more; none after a key that was accepted; and a level that has no count gets none.
-fn counted(rt: &impl Print) -> io::Result<()> {
+fn counted(rt: &HostRuntime) -> io::Result<()> {
     let mut k = fresh();
     refused(&mut k, 3, 254);
     count(rt, b"refused 254 times:", &k, 3)?;
@@ -66,7 +66,7 @@ fn filled(n: u8) -> Security {
 }
 
 // Whether both lists have room for a level, after so many.
-fn entered(rt: &impl Print, what: &[u8], before: u8, level: u8) -> io::Result<()> {
+fn entered(rt: &HostRuntime, what: &[u8], before: u8, level: u8) -> io::Result<()> {
     let mut k = filled(before);
     Line::new()
         .text(what)
@@ -77,7 +77,7 @@ fn entered(rt: &impl Print, what: &[u8], before: u8, level: u8) -> io::Result<()
 }
 
 // Locked until 900: at 899, at 900, another level; then locked again until 950.
-fn locked(rt: &impl Print) -> io::Result<()> {
+fn locked(rt: &HostRuntime) -> io::Result<()> {
     let mut k = filled(3);
     Line::new()
         .text(b"locked at 899, 900:")
@@ -105,7 +105,7 @@ fn bytes(k: &Security) -> [u8; 32] {
     all
 }
 
-fn seed(rt: &impl Print, what: &[u8], k: &Security) -> io::Result<()> {
+fn seed(rt: &HostRuntime, what: &[u8], k: &Security) -> io::Result<()> {
     let all = bytes(k);
     Line::new()
         .text(what)
@@ -116,7 +116,7 @@ fn seed(rt: &impl Print, what: &[u8], k: &Security) -> io::Result<()> {
     Ok(())
 }
 
-fn awaited(rt: &impl Print, k: &Security, level: u8, other: u8) -> io::Result<()> {
+fn awaited(rt: &HostRuntime, k: &Security, level: u8, other: u8) -> io::Result<()> {
     Line::new()
         .text(b"awaited:")
         .flag(security::awaits(k, level))
@@ -126,7 +126,7 @@ fn awaited(rt: &impl Print, k: &Security, level: u8, other: u8) -> io::Result<()
 }
 
 // A seed of four bytes, kept and cleared; the longest, and a short one after it, which leaves none of its bytes; and one that is too long.
-fn seeded(rt: &impl Print) -> io::Result<()> {
+fn seeded(rt: &HostRuntime) -> io::Result<()> {
     let mut k = fresh();
     security::seed(&mut k, 3, b"\x01\x02\x03\x04");
     seed(rt, b"seeded:", &k)?;

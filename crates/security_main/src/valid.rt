@@ -4,7 +4,7 @@ use std::io;
 use uds::clock::Instant;
 
 // A list of nine is no list of levels: nothing is found under it, and nothing entered.
-fn nine(rt: &impl Print) -> io::Result<()> {
+fn nine(rt: &HostRuntime) -> io::Result<()> {
     let mut k = [1u64; 68];
     k[2] = 9;
     Line::new()
@@ -34,7 +34,7 @@ fn valid(seed: u64, counts: u64, locks: u64, until: u64) -> bool {
     security::is_valid(&k)
 }
 
-pub(crate) fn run(rt: &impl Print) -> io::Result<()> {
+pub(crate) fn run(rt: &HostRuntime) -> io::Result<()> {
     nine(rt)?;
     Line::new()
         .text(b"seed of 32, 33:")

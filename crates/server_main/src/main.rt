@@ -45,7 +45,7 @@ fn not_valid(s: State) -> State {
 }
 
 // A buffer that is a byte short, one that is exactly full, what is left then, and a longer buffer; and 10, which comes before 5.
-fn lent(rt: &impl Print, c: &Config, other: &Config) -> io::Result<()> {
+fn lent(rt: &HostRuntime, c: &Config, other: &Config) -> io::Result<()> {
     let mut heads = [0u32; 32];
     let mut room = [0u8; 4353];
     let s = waiting(&mut heads, &mut room);
@@ -85,7 +85,7 @@ fn lent(rt: &impl Print, c: &Config, other: &Config) -> io::Result<()> {
 }
 
 // The same by the other door.
-fn by_value(rt: &impl Print, v: Server) -> io::Result<()> {
+fn by_value(rt: &HostRuntime, v: Server) -> io::Result<()> {
     let mut heads = v.heads;
     let mut room = v.room;
     let s = waiting(&mut heads, &mut room);

@@ -37,7 +37,7 @@ fn configured() -> Config {
 
 // One request from 3712, and a drain after it. F190 has the value 12 34.
 fn ask(
-    rt: &impl Print,
+    rt: &HostRuntime,
     what: &[u8],
     c: &Config,
     s: State,
@@ -90,7 +90,7 @@ fn ask(
 
 // The key stands between: refused, unlocked, read.
 fn keyed(
-    rt: &impl Print,
+    rt: &HostRuntime,
     c: &Config,
     s: State,
     k: &mut Security,
@@ -167,7 +167,7 @@ fn keyed(
 
 // What is refused or dropped before a service is asked, and a request that is pending.
 fn refused(
-    rt: &impl Print,
+    rt: &HostRuntime,
     c: &Config,
     s: State,
     k: &mut Security,
@@ -287,7 +287,7 @@ fn refused(
     Ok(())
 }
 
-pub(crate) fn run(rt: &impl Print) -> io::Result<()> {
+pub(crate) fn run(rt: &HostRuntime) -> io::Result<()> {
     let c = configured();
     let fresh = SecurityState::new();
     let mut k = fresh.words;

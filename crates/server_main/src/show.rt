@@ -7,7 +7,7 @@ use state::State;
 use std::io;
 
 // The result, the two addresses, the session, the level, and how many subscriptions and frames there are.
-pub(crate) fn fresh(rt: &impl Print, what: &[u8], c: Config) -> io::Result<Server> {
+pub(crate) fn fresh(rt: &HostRuntime, what: &[u8], c: Config) -> io::Result<Server> {
     let f = Server::fresh(c);
     let v = f.server;
     let config = v.config;
@@ -28,7 +28,7 @@ pub(crate) fn fresh(rt: &impl Print, what: &[u8], c: Config) -> io::Result<Serve
 
 // The result, how many frames were written, how many wait then, and the buffer.
 fn drained(
-    rt: &impl Print,
+    rt: &HostRuntime,
     what: &[u8],
     res: u8,
     frames: u8,
@@ -46,7 +46,7 @@ fn drained(
 }
 
 pub(crate) fn lent<'a>(
-    rt: &impl Print,
+    rt: &HostRuntime,
     what: &[u8],
     c: &'a Config,
     s: State,
@@ -61,7 +61,7 @@ pub(crate) fn lent<'a>(
 }
 
 pub(crate) fn by_value(
-    rt: &impl Print,
+    rt: &HostRuntime,
     what: &[u8],
     v: Server,
     out: &mut [u8],

@@ -10,13 +10,13 @@ fn valid(c: &Config, s: State) -> bool {
     state::valid::is_valid(c, s, &[0; 68], &[0; 64], &[1; 32], &[0; 4353])
 }
 
-fn pair(rt: &impl Print, name: &[u8], last: bool, past: bool) -> io::Result<()> {
+fn pair(rt: &HostRuntime, name: &[u8], last: bool, past: bool) -> io::Result<()> {
     Line::new().text(name).flag(last).flag(past).print(rt)?;
     Ok(())
 }
 
 // Session, level and moment of the last request, how it was addressed, whether one is pending, subscriptions and frames; and that it is valid.
-pub(crate) fn fresh(rt: &impl Print, c: &Config) -> io::Result<()> {
+pub(crate) fn fresh(rt: &HostRuntime, c: &Config) -> io::Result<()> {
     let s = State::new();
     let session = s.session;
     let pending = s.pending;
@@ -54,7 +54,7 @@ fn pending(t: u64, on: bool) -> State {
     s
 }
 
-pub(crate) fn moments(rt: &impl Print, c: &Config) -> io::Result<()> {
+pub(crate) fn moments(rt: &HostRuntime, c: &Config) -> io::Result<()> {
     let last = Instant::MAX_MOMENT;
     pair(
         rt,
@@ -85,7 +85,7 @@ fn beside(c: &Config, seed: u64, counts: u64, locks: u64, until: u64) -> bool {
     state::valid::is_valid(c, State::new(), &k, &[0; 64], &[1; 32], &[0; 4353])
 }
 
-pub(crate) fn secured(rt: &impl Print, c: &Config) -> io::Result<()> {
+pub(crate) fn secured(rt: &HostRuntime, c: &Config) -> io::Result<()> {
     let last = Instant::MAX_MOMENT;
     pair(rt, b"seed:", beside(c, 32, 0, 0, 0), beside(c, 33, 0, 0, 0))?;
     pair(rt, b"counts:", beside(c, 0, 8, 0, 0), beside(c, 0, 9, 0, 0))?;
@@ -109,7 +109,7 @@ fn among(c: &Config, count: u8, interval: u64, next: u64) -> bool {
     state::valid::is_valid(c, s, &[0; 68], &subs, &[1; 32], &[0; 4353])
 }
 
-pub(crate) fn subscribed(rt: &impl Print, c: &Config) -> io::Result<()> {
+pub(crate) fn subscribed(rt: &HostRuntime, c: &Config) -> io::Result<()> {
     let last = Instant::MAX_MOMENT;
     pair(
         rt,
@@ -134,7 +134,7 @@ fn waiting(c: &Config, count: u8, len: u32) -> bool {
     state::valid::is_valid(c, s, &[0; 68], &[0; 64], &[len; 32], &[0; 4353])
 }
 
-pub(crate) fn framed(rt: &impl Print, c: &Config) -> io::Result<()> {
+pub(crate) fn framed(rt: &HostRuntime, c: &Config) -> io::Result<()> {
     pair(rt, b"frames:", waiting(c, 16, 1), waiting(c, 17, 1))?;
     pair(
         rt,
@@ -146,7 +146,7 @@ pub(crate) fn framed(rt: &impl Print, c: &Config) -> io::Result<()> {
     Ok(())
 }
 
-pub(crate) fn configured(rt: &impl Print, eight: &Config, nine: &Config) -> io::Result<()> {
+pub(crate) fn configured(rt: &HostRuntime, eight: &Config, nine: &Config) -> io::Result<()> {
     pair(
         rt,
         b"sessions:",

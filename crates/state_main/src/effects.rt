@@ -24,7 +24,7 @@ fn effect(reply: Reply, waits: bool) -> Effect {
 
 // Carried out at a time, and told.
 fn carried(
-    rt: &impl Print,
+    rt: &HostRuntime,
     what: &[u8],
     c: &Config,
     s: State,
@@ -61,7 +61,7 @@ fn carried(
 }
 
 // Nothing said, a code that is withheld after a functional request, one that is not, and 78 now and at the end of the clock.
-fn replies(rt: &impl Print, c: &Config) -> io::Result<()> {
+fn replies(rt: &HostRuntime, c: &Config) -> io::Result<()> {
     let mut h = [0u32; 32];
     let mut room = [0u8; 4353];
     let silent = effect(Reply::Silent, false);
@@ -107,7 +107,7 @@ fn replies(rt: &impl Print, c: &Config) -> io::Result<()> {
 }
 
 // Sixteen wait: a change that does not wait for its reply is made, and one that does is not.
-fn full(rt: &impl Print, c: &Config) -> io::Result<()> {
+fn full(rt: &HostRuntime, c: &Config) -> io::Result<()> {
     let mut h = [1u32; 32];
     let mut room = [0u8; 4353];
     let mut s = State::new();
@@ -153,7 +153,7 @@ fn full(rt: &impl Print, c: &Config) -> io::Result<()> {
 
 // Session 3 and level 3, five subscriptions, and the seed cleared or not. The clock went back: the last request was at 500, and this one is at 100.
 fn seeded(
-    rt: &impl Print,
+    rt: &HostRuntime,
     what: &[u8],
     c: &Config,
     frames: u8,
@@ -200,7 +200,7 @@ fn seeded(
     Ok(())
 }
 
-pub(crate) fn run(rt: &impl Print, c: &Config) -> io::Result<()> {
+pub(crate) fn run(rt: &HostRuntime, c: &Config) -> io::Result<()> {
     replies(rt, c)?;
     full(rt, c)?;
     seeded(rt, b"seed kept:", c, 0, false, false, false)?;

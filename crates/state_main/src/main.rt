@@ -25,7 +25,7 @@ fn sessions(mut c: Config, n: u8) -> Config {
 }
 
 // Another session: its level is not held yet, and the last request was when it was.
-fn opened(rt: &impl Print) -> io::Result<()> {
+fn opened(rt: &HostRuntime) -> io::Result<()> {
     let session = SessionState {
         last_rx: Instant(7),
         session_type: 1,

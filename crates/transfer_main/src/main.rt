@@ -47,7 +47,7 @@ fn reply(line: Line, reply: Reply, room: &Room) -> Line {
 }
 
 // The answer to a question.
-fn asked(rt: &impl Print, ask: Ask) -> io::Result<()> {
+fn asked(rt: &HostRuntime, ask: Ask) -> io::Result<()> {
     let line = match ask {
         Ask::Refused(code) => Line::new().word(b"refused").hex(&[code]),
         Ask::Asks(asks) => act(Line::new().word(b"asks"), asks),
@@ -57,7 +57,7 @@ fn asked(rt: &impl Print, ask: Ask) -> io::Result<()> {
 }
 
 // The answer to a request.
-fn spoken(rt: &impl Print, spoken: Spoken, room: &Room) -> io::Result<()> {
+fn spoken(rt: &HostRuntime, spoken: Spoken, room: &Room) -> io::Result<()> {
     let acts = spoken.act;
     let says = spoken.reply;
     reply(act(Line::new(), acts), says, room).print(rt)?;
@@ -65,7 +65,7 @@ fn spoken(rt: &impl Print, spoken: Spoken, room: &Room) -> io::Result<()> {
 }
 
 // Two lines: what is asked, and the answer.
-fn run34(rt: &impl Print, payload: &[u8], err: u8, given: &[u8]) -> io::Result<()> {
+fn run34(rt: &HostRuntime, payload: &[u8], err: u8, given: &[u8]) -> io::Result<()> {
     let mut room = [0u8; 4353];
     asked(rt, transfer::service34::ask34(payload))?;
     let answer = transfer::service34::service34(0, payload, err, given, &mut room);
@@ -74,7 +74,7 @@ fn run34(rt: &impl Print, payload: &[u8], err: u8, given: &[u8]) -> io::Result<(
 }
 
 // Two lines: what is asked, and the answer.
-fn run36(rt: &impl Print, payload: &[u8], err: u8, given: &[u8]) -> io::Result<()> {
+fn run36(rt: &HostRuntime, payload: &[u8], err: u8, given: &[u8]) -> io::Result<()> {
     let mut room = [0u8; 4353];
     asked(rt, transfer::service36::ask36(payload))?;
     let answer = transfer::service36::service36(0, payload, err, given, &mut room);
@@ -83,7 +83,7 @@ fn run36(rt: &impl Print, payload: &[u8], err: u8, given: &[u8]) -> io::Result<(
 }
 
 // Two lines: what is asked, and the answer.
-fn run37(rt: &impl Print, payload: &[u8], err: u8, given: &[u8]) -> io::Result<()> {
+fn run37(rt: &HostRuntime, payload: &[u8], err: u8, given: &[u8]) -> io::Result<()> {
     let mut room = [0u8; 4353];
     asked(rt, Ask::Asks(transfer::service37::ask37(payload)))?;
     let answer = transfer::service37::service37(0, payload, err, given, &mut room);
@@ -92,7 +92,7 @@ fn run37(rt: &impl Print, payload: &[u8], err: u8, given: &[u8]) -> io::Result<(
 }
 
 // Two lines: what is asked, and the answer.
-fn run38(rt: &impl Print, payload: &[u8], err: u8, given: &[u8]) -> io::Result<()> {
+fn run38(rt: &HostRuntime, payload: &[u8], err: u8, given: &[u8]) -> io::Result<()> {
     let mut room = [0u8; 4353];
     asked(rt, transfer::service38::ask38(payload))?;
     let answer = transfer::service38::service38(0, payload, err, given, &mut room);
@@ -101,7 +101,7 @@ fn run38(rt: &impl Print, payload: &[u8], err: u8, given: &[u8]) -> io::Result<(
 }
 
 // Short payloads, lengths of nothing, both lengths, a byte less and a byte more, an address alone, a size alone, lengths of 15.
-fn lengths34(rt: &impl Print) -> io::Result<()> {
+fn lengths34(rt: &HostRuntime) -> io::Result<()> {
     let both = [0xFFu8; 32];
     run34(rt, &[], 0, &[])?;
     run34(rt, &[0x00, 0x11], 0, &[])?;
@@ -129,7 +129,7 @@ fn lengths34(rt: &impl Print) -> io::Result<()> {
 }
 
 // An act of 64 bytes, of 65, errors with and without bytes, a pending one.
-fn acts34(rt: &impl Print) -> io::Result<()> {
+fn acts34(rt: &HostRuntime) -> io::Result<()> {
     let bytes = [0x5Au8; 257];
     let request = [0x11, 0x24, 0xA1, 0xA2, 0xB1, 0xB2, 0xB3, 0xB4];
     run34(rt, &request[..8], 0, &bytes[..64])?;
@@ -141,7 +141,7 @@ fn acts34(rt: &impl Print) -> io::Result<()> {
 }
 
 // No counter, a counter alone, a block, the longest block.
-fn counters36(rt: &impl Print) -> io::Result<()> {
+fn counters36(rt: &HostRuntime) -> io::Result<()> {
     let block = [0x07u8; 4094];
     run36(rt, &[], 0, &[])?;
     run36(rt, &[0x05], 0, &[])?;
@@ -151,7 +151,7 @@ fn counters36(rt: &impl Print) -> io::Result<()> {
 }
 
 // Acts that fill a reply, that are a byte over, of 256 and 257 bytes, errors, a pending one.
-fn acts36(rt: &impl Print) -> io::Result<()> {
+fn acts36(rt: &HostRuntime) -> io::Result<()> {
     let bytes = [0x5Au8; 257];
     run36(rt, &[0x01, 0x02], 0, &bytes[..255])?;
     run36(rt, &[0x01, 0x02], 0, &bytes[..256])?;
@@ -163,7 +163,7 @@ fn acts36(rt: &impl Print) -> io::Result<()> {
 }
 
 // No payload and some; acts of no byte, of 256 and 257, errors, a pending one.
-fn any37(rt: &impl Print) -> io::Result<()> {
+fn any37(rt: &HostRuntime) -> io::Result<()> {
     let bytes = [0x5Au8; 257];
     run37(rt, &[], 0, &[])?;
     run37(rt, &[0x01, 0x02], 0, &[0xC0])?;
@@ -175,7 +175,7 @@ fn any37(rt: &impl Print) -> io::Result<()> {
 }
 
 // Short payloads, no path, a path that fits exactly, that is a byte short, that is followed by a byte; the same of 257 bytes; one that is far too long.
-fn paths38(rt: &impl Print) -> io::Result<()> {
+fn paths38(rt: &HostRuntime) -> io::Result<()> {
     let path = [0x01u8; 261];
     run38(rt, &[], 0, &[])?;
     run38(rt, &[0x01, 0x00], 0, &[])?;
@@ -192,7 +192,7 @@ fn paths38(rt: &impl Print) -> io::Result<()> {
 }
 
 // Acts of 256 and 257 bytes, errors, a pending one.
-fn acts38(rt: &impl Print) -> io::Result<()> {
+fn acts38(rt: &HostRuntime) -> io::Result<()> {
     let bytes = [0x5Au8; 257];
     run38(rt, &[0x02, 0x00, 0x00], 0, &bytes[..256])?;
     run38(rt, &[0x02, 0x00, 0x00], 0, &bytes[..257])?;

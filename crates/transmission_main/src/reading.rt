@@ -6,7 +6,7 @@ use std::io;
 
 // A reading in session 1, where the value of F190 has so many bytes, and that of F191 one byte and this error byte.
 fn read(
-    rt: &impl Print,
+    rt: &HostRuntime,
     what: &[u8],
     c: &Config,
     level: u8,
@@ -23,7 +23,7 @@ fn read(
     Ok(())
 }
 
-pub(crate) fn values(rt: &impl Print, c: &Config) -> io::Result<()> {
+pub(crate) fn values(rt: &HostRuntime, c: &Config) -> io::Result<()> {
     let one = b"\xF1\x90";
     read(rt, b"0 bytes:", c, 0, 0, 0, one)?;
     read(rt, b"1 byte:", c, 0, 1, 0, one)?;
@@ -36,14 +36,14 @@ pub(crate) fn values(rt: &impl Print, c: &Config) -> io::Result<()> {
     Ok(())
 }
 
-pub(crate) fn lengths(rt: &impl Print, c: &Config) -> io::Result<()> {
+pub(crate) fn lengths(rt: &HostRuntime, c: &Config) -> io::Result<()> {
     read(rt, b"empty:", c, 0, 1, 0, b"")?;
     read(rt, b"half an identifier:", c, 0, 1, 0, b"\xF1")?;
     read(rt, b"one and a half:", c, 0, 1, 0, b"\xF1\x90\xF1")?;
     Ok(())
 }
 
-pub(crate) fn seconds(rt: &impl Print, c: &Config) -> io::Result<()> {
+pub(crate) fn seconds(rt: &HostRuntime, c: &Config) -> io::Result<()> {
     let two = b"\xF1\x90\xF1\x91";
     read(rt, b"second unknown:", c, 0, 1, 0, b"\xF1\x90\xF1\xFF")?;
     read(rt, b"second not held:", c, 0, 1, 0, two)?;
@@ -54,7 +54,7 @@ pub(crate) fn seconds(rt: &impl Print, c: &Config) -> io::Result<()> {
 }
 
 // A reading of 256 bytes, and what is looked at after it; one of 254 and one of 253 before three bytes more.
-pub(crate) fn limits(rt: &impl Print, c: &Config) -> io::Result<()> {
+pub(crate) fn limits(rt: &HostRuntime, c: &Config) -> io::Result<()> {
     let two = b"\xF1\x90\xF1\x91";
     read(rt, b"256, then unknown:", c, 0, 254, 0, b"\xF1\x90\xF1\xFF")?;
     read(rt, b"256, then not held:", c, 0, 254, 0, two)?;

@@ -23,7 +23,7 @@ fn length(heads: &Heads) -> u32 {
 
 // The frame's length, and as much of it as five bytes.
 pub(crate) fn reply(
-    rt: &impl Print,
+    rt: &HostRuntime,
     line: Line,
     reply: Reply,
     sid: u8,
@@ -46,7 +46,7 @@ pub(crate) fn reply(
 }
 
 // A subscription: its number, identifier, client, interval, and when it is next due.
-pub(crate) fn entry(rt: &impl Print, subs: &Subscriptions, i: usize) -> io::Result<()> {
+pub(crate) fn entry(rt: &HostRuntime, subs: &Subscriptions, i: usize) -> io::Result<()> {
     let e = periodic::entry_at(subs, i);
     Line::new()
         .number(i as u64)

@@ -7,7 +7,7 @@ use std::io;
 use uds::clock::Instant;
 
 fn ask(
-    rt: &impl Print,
+    rt: &HostRuntime,
     what: &[u8],
     c: &Config,
     subs: &mut Subscriptions,
@@ -37,7 +37,7 @@ fn ask(
 }
 
 // Registered, renewed, refused and cancelled, by two clients.
-pub(crate) fn several(rt: &impl Print, c: &Config) -> io::Result<()> {
+pub(crate) fn several(rt: &HostRuntime, c: &Config) -> io::Result<()> {
     let mut subs = [0u64; 64];
     let one = ask(rt, b"slow:", c, &mut subs, 0, 1, 100, b"\x01\x01")?;
     show::entry(rt, &subs, 0)?;
@@ -76,7 +76,7 @@ pub(crate) fn several(rt: &impl Print, c: &Config) -> io::Result<()> {
 }
 
 fn three(
-    rt: &impl Print,
+    rt: &HostRuntime,
     c: &Config,
     subs: &mut Subscriptions,
     count: u8,
@@ -90,7 +90,7 @@ fn three(
 }
 
 // Sixteen clients; a seventeenth; what stands is renewed all the same, also where the next finds no room; and a count that no table has.
-pub(crate) fn full(rt: &impl Print, c: &Config) -> io::Result<()> {
+pub(crate) fn full(rt: &HostRuntime, c: &Config) -> io::Result<()> {
     let mut subs = [0u64; 64];
     let a = three(rt, c, &mut subs, 0, 1, 2, 3)?;
     let b = three(rt, c, &mut subs, a, 4, 5, 6)?;
@@ -136,7 +136,7 @@ pub(crate) fn full(rt: &impl Print, c: &Config) -> io::Result<()> {
 }
 
 // At 2^48, and a millisecond later.
-pub(crate) fn late(rt: &impl Print, c: &Config) -> io::Result<()> {
+pub(crate) fn late(rt: &HostRuntime, c: &Config) -> io::Result<()> {
     let mut subs = [0u64; 64];
     let one = ask(
         rt,

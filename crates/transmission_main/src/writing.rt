@@ -5,7 +5,7 @@ use lines::Line;
 use std::io;
 
 fn write(
-    rt: &impl Print,
+    rt: &HostRuntime,
     what: &[u8],
     c: &Config,
     session: u8,
@@ -32,7 +32,7 @@ fn write(
     Ok(())
 }
 
-pub(crate) fn refused(rt: &impl Print, c: &Config) -> io::Result<()> {
+pub(crate) fn refused(rt: &HostRuntime, c: &Config) -> io::Result<()> {
     write(rt, b"short:", c, 3, 0, b"\xF1\x90", 0, b"")?;
     write(rt, b"unknown:", c, 3, 0, b"\xF1\xFF\x01", 0, b"")?;
     write(
@@ -49,7 +49,7 @@ pub(crate) fn refused(rt: &impl Print, c: &Config) -> io::Result<()> {
     Ok(())
 }
 
-pub(crate) fn done(rt: &impl Print, c: &Config) -> io::Result<()> {
+pub(crate) fn done(rt: &HostRuntime, c: &Config) -> io::Result<()> {
     let given = [0u8; 257];
     write(rt, b"held:", c, 3, 1, b"\xF1\x91\x01", 0, b"")?;
     write(

@@ -10,7 +10,7 @@ use uds::values::Outcome;
 use uds::{frame, values};
 
 // Sums at and past the last moment, differences after a clock that went forth and back, and the three comparisons.
-fn clock(rt: &impl Print) -> io::Result<()> {
+fn clock(rt: &HostRuntime) -> io::Result<()> {
     let last = Instant(Instant::LAST);
     Line::new()
         .text(b"clock:")
@@ -28,7 +28,7 @@ fn clock(rt: &impl Print) -> io::Result<()> {
 }
 
 // Every code that is withheld after a functional request.
-fn codes(rt: &impl Print) -> io::Result<()> {
+fn codes(rt: &HostRuntime) -> io::Result<()> {
     let mut line = Line::new().text(b"withheld:");
     let mut code: u8 = 0;
     while code < 255 {
@@ -42,7 +42,7 @@ fn codes(rt: &impl Print) -> io::Result<()> {
 }
 
 // The three rates.
-fn rates(rt: &impl Print) -> io::Result<()> {
+fn rates(rt: &HostRuntime) -> io::Result<()> {
     Line::new()
         .text(b"rates:")
         .number(Rate(1).interval().0)
@@ -53,7 +53,7 @@ fn rates(rt: &impl Print) -> io::Result<()> {
 }
 
 // The first byte and what follows, of a frame and of none; the sub-function with and without its bit 7.
-fn first_bytes(rt: &impl Print) -> io::Result<()> {
+fn first_bytes(rt: &HostRuntime) -> io::Result<()> {
     Line::new()
         .text(b"service:")
         .lower_hex(&[frame::sid(b"\x22\xF1\x90")])
@@ -74,7 +74,7 @@ fn first_bytes(rt: &impl Print) -> io::Result<()> {
 }
 
 // Nibbles, the periodic page, bit 6.
-fn bits(rt: &impl Print) -> io::Result<()> {
+fn bits(rt: &HostRuntime) -> io::Result<()> {
     Line::new()
         .text(b"bits:")
         .number(frame::high_nibble(0xA5) as u64)
@@ -87,7 +87,7 @@ fn bits(rt: &impl Print) -> io::Result<()> {
 }
 
 // Numbers of two bytes.
-fn two_bytes(rt: &impl Print) -> io::Result<()> {
+fn two_bytes(rt: &HostRuntime) -> io::Result<()> {
     let both = frame::two_bytes(0x1_2345);
     Line::new()
         .text(b"two bytes:")
@@ -104,7 +104,7 @@ fn two_bytes(rt: &impl Print) -> io::Result<()> {
 
 // What the table says of an identifier, at the limit of 256: where the bytes stand and how many they are, or the error byte.
 fn read(
-    rt: &impl Print,
+    rt: &HostRuntime,
     what: &[u8],
     words: &[u32],
     pool: &[u8],
@@ -124,7 +124,7 @@ fn read(
 
 // Eight rows over four bytes, and three words that make no row: in the pool, its identifier again, with an error byte, exactly to the end, a byte past
 // it, empty at the end, empty past it, and an error outside the pool.
-fn table(rt: &impl Print) -> io::Result<()> {
+fn table(rt: &HostRuntime) -> io::Result<()> {
     let words = [
         0xF190u32, 0, 0, 2, 0xF190, 0, 2, 2, 0xF201, 0x110, 0, 4, 0xF202, 0, 2, 2, 0xF203, 0, 3, 2,
         0xF204, 0, 4, 0, 0xF205, 0, 5, 0, 0xF206, 0x10, 0, 5, 0xF207, 0, 0,
@@ -143,7 +143,7 @@ fn table(rt: &impl Print) -> io::Result<()> {
 }
 
 // A value of 256 bytes and one of 257.
-fn long(rt: &impl Print) -> io::Result<()> {
+fn long(rt: &HostRuntime) -> io::Result<()> {
     let words = [0xF190u32, 0, 0, 256, 0xF201, 0, 0, 257];
     let pool = [0u8; 300];
     read(rt, b"256 bytes:", &words, &pool, 0xF190)?;

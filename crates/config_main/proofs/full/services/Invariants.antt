@@ -1,8 +1,9 @@
+-- So many rows, one a turn.
 use Rattle.std.proofs.Common.{◌-◌, ◌≤◌}
-use Rattle.queue_main.proofs.seventeen.Given as goal
+use Rattle.config_main.proofs.full.services.Given as goal
 
 abbrev pub invariant-loop-i : goal.invariant-loop-i
-invariant-loop-i l = l.i ≤ 17
+invariant-loop-i l = l.i ≤ 24
 
 abbrev pub decreases-loop-i : goal.decreases-loop-i
-decreases-loop-i l = 17 - l.i
+decreases-loop-i l = 24 - l.i
