@@ -1,6 +1,7 @@
 // The queue for callers in Rust or C, so that push and drain can be run and measured beside the same in Rust. A slice passes as its
 // first byte and its length.
 #![tactic(auto)]
+
 ghost use Rattle.std.specs.Prelude.{◌≡◌};
 ghost use Rattle.model.specs.Numbers.{max_frame};
 ghost use Rattle.model.specs.Queue.{refused, confirmed, drained};

@@ -1,5 +1,6 @@
 // Validity and effects for callers in Rust or C, so that both can be run and measured. What lies in an enum goes by number.
 #![tactic(auto)]
+
 ghost use Rattle.std.specs.Prelude.{◌≡◌};
 ghost use Rattle.model.specs.Numbers.{max_frame};
 ghost use Rattle.model.specs.State as Model;
