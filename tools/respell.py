@@ -19,7 +19,7 @@ DECLARED = re.compile(r"(?m)^ *(?:(?:pub|abbrev|unfoldable|axiom) +)*(?:(?:recor
 LIBRARY = re.compile(r"use (?:mathlib|lib|Prim|borrow|denote|native|antt|Rattle\.std)[^\s{]*\{([^}]*)\}")
 CLAUSE = re.compile(r"ghost use\b[^;]*;|\b(?:requires|ensures)\b\*?\s*(?:\w+\s*)?\{")
 TESTS = {"eqb": "nat_eq", "ltb": "nat_lt", "leb": "nat_le"}
-# What Rattle itself adds to a function's name: no name of a definition.
+# What is added to a function's name, which keeps its own spelling: no name of a definition.
 ENDINGS = {"settled", "spec", "reads", "requires"}
 # Two lemmas that would fall together with a definition that their own module imports.
 STANDARD = {"requestSeed", "sendKey", "powerDownTime"}
@@ -65,6 +65,8 @@ def table():
 
     def turned(name):
         parts = [snake(part) for part in name.split("-")]
+        if parts[-1] in ENDINGS:
+            return "_".join(parts)
         new = parts[0]
         for a, b in zip(parts, parts[1:]):
             new += ("-" if a in known and b in known else "_") + b

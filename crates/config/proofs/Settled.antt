@@ -68,30 +68,30 @@ physical_settled κs a x e y f p q = said p q
 pub functional_settled : (κs : _) (a : _) → Settles (functional.Post κs a) Answer
 functional_settled κs a x e y f p q = said p q
 
-pub session-count_settled : (κs : _) (a : _) → Settles (session-count.Post κs a) Answer
-session-count_settled κs a x e y f p q = said p q
+pub session_count_settled : (κs : _) (a : _) → Settles (session-count.Post κs a) Answer
+session_count_settled κs a x e y f p q = said p q
 
-pub service-count_settled : (κs : _) (a : _) → Settles (service-count.Post κs a) Answer
-service-count_settled κs a x e y f p q = said p q
+pub service_count_settled : (κs : _) (a : _) → Settles (service-count.Post κs a) Answer
+service_count_settled κs a x e y f p q = said p q
 
-pub did-count_settled : (κs : _) (a : _) → Settles (did-count.Post κs a) Answer
-did-count_settled κs a x e y f p q = said p q
+pub did_count_settled : (κs : _) (a : _) → Settles (did-count.Post κs a) Answer
+did_count_settled κs a x e y f p q = said p q
 
-pub security-level-count_settled : (κs : _) (a : _) → Settles (security-level-count.Post κs a) Answer
-security-level-count_settled κs a x e y f p q = said p q
+pub security_level_count_settled : (κs : _) (a : _) → Settles (security-level-count.Post κs a) Answer
+security_level_count_settled κs a x e y f p q = said p q
 
 -- lookups
-pub find-session_settled : (κs : _) (a : _) → Settles (find-session.Post κs a) Answer
-find-session_settled κs a x e y f p q = looked_up p q
+pub find_session_settled : (κs : _) (a : _) → Settles (find-session.Post κs a) Answer
+find_session_settled κs a x e y f p q = looked_up p q
 
-pub find-service_settled : (κs : _) (a : _) → Settles (find-service.Post κs a) Answer
-find-service_settled κs a x e y f p q = looked_up p q
+pub find_service_settled : (κs : _) (a : _) → Settles (find-service.Post κs a) Answer
+find_service_settled κs a x e y f p q = looked_up p q
 
-pub find-did_settled : (κs : _) (a : _) → Settles (find-did.Post κs a) Answer
-find-did_settled κs a x e y f p q = looked_up p q
+pub find_did_settled : (κs : _) (a : _) → Settles (find-did.Post κs a) Answer
+find_did_settled κs a x e y f p q = looked_up p q
 
-pub find-security-level_settled : (κs : _) (a : _) → Settles (find-security-level.Post κs a) Answer
-find-security-level_settled κs a x e y f p q = looked_up p q
+pub find_security_level_settled : (κs : _) (a : _) → Settles (find-security-level.Post κs a) Answer
+find_security_level_settled κs a x e y f p q = looked_up p q
 
 -- what a row says
 pub p2_settled : (κs : _) (a : _) → Settles (p2.Post κs a) Answer
@@ -103,11 +103,11 @@ p2_ext_settled κs a x e y f p q = span p q
 pub s3_settled : (κs : _) (a : _) → Settles (s3.Post κs a) Answer
 s3_settled κs a x e y f p q = span p q
 
-pub did-level_settled : (κs : _) (a : _) → Settles (did-level.Post κs a) Answer
-did-level_settled κs a x e y f p q = said p q
+pub did_level_settled : (κs : _) (a : _) → Settles (did-level.Post κs a) Answer
+did_level_settled κs a x e y f p q = said p q
 
-pub min-interval_settled : (κs : _) (a : _) → Settles (min-interval.Post κs a) Answer
-min-interval_settled κs a x e y f p q = span p q
+pub min_interval_settled : (κs : _) (a : _) → Settles (min-interval.Post κs a) Answer
+min_interval_settled κs a x e y f p q = span p q
 
 pub max_attempts_settled : (κs : _) (a : _) → Settles (max-attempts.Post κs a) Answer
 max_attempts_settled κs a x e y f p q = said p q
@@ -115,11 +115,11 @@ max_attempts_settled κs a x e y f p q = said p q
 pub lockout_settled : (κs : _) (a : _) → Settles (lockout.Post κs a) Answer
 lockout_settled κs a x e y f p q = span p q
 
-pub seed-length_settled : (κs : _) (a : _) → Settles (seed-length.Post κs a) Answer
-seed-length_settled κs a x e y f p q = said p q
+pub seed_length_settled : (κs : _) (a : _) → Settles (seed-length.Post κs a) Answer
+seed_length_settled κs a x e y f p q = said p q
 
-pub key-length_settled : (κs : _) (a : _) → Settles (key-length.Post κs a) Answer
-key-length_settled κs a x e y f p q = said p q
+pub key_length_settled : (κs : _) (a : _) → Settles (key-length.Post κs a) Answer
+key_length_settled κs a x e y f p q = said p q
 
 pub allowed_in_settled : (κs : _) (a : _) → Settles (allowed-in.Post κs a) Answer
 allowed_in_settled κs a x e y f p q = said p q
@@ -130,14 +130,14 @@ readable_in_settled κs a x e y f p q = said p q
 pub writable_in_settled : (κs : _) (a : _) → Settles (writable-in.Post κs a) Answer
 writable_in_settled κs a x e y f p q = said p q
 
-pub service-allowed_settled : (κs : _) (a : _) → Settles (service-allowed.Post κs a) Answer
-service-allowed_settled κs a x e y f p q = said p q
+pub service_allowed_settled : (κs : _) (a : _) → Settles (service-allowed.Post κs a) Answer
+service_allowed_settled κs a x e y f p q = said p q
 
-pub did-readable_settled : (κs : _) (a : _) → Settles (did-readable.Post κs a) Answer
-did-readable_settled κs a x e y f p q = said p q
+pub did_readable_settled : (κs : _) (a : _) → Settles (did-readable.Post κs a) Answer
+did_readable_settled κs a x e y f p q = said p q
 
-pub did-writable_settled : (κs : _) (a : _) → Settles (did-writable.Post κs a) Answer
-did-writable_settled κs a x e y f p q = said p q
+pub did_writable_settled : (κs : _) (a : _) → Settles (did-writable.Post κs a) Answer
+did_writable_settled κs a x e y f p q = said p q
 
 -- whether the numbers are kept
 pub within_settled : (κs : _) (a : _) → Settles (within.Post κs a) Answer
@@ -156,5 +156,5 @@ with_service_settled κs a x e y f p q = built x y _ p q
 pub with_did_settled : (κs : _) (a : _) → Settles (with_did.Post κs a) (λ x e y f. SameConfig x y)
 with_did_settled κs a x e y f p q = built x y _ p q
 
-pub with_security-level_settled : (κs : _) (a : _) → Settles (with-security-level.Post κs a) (λ x e y f. SameConfig x y)
-with_security-level_settled κs a x e y f p q = built x y _ p q
+pub with_security_level_settled : (κs : _) (a : _) → Settles (with-security-level.Post κs a) (λ x e y f. SameConfig x y)
+with_security_level_settled κs a x e y f p q = built x y _ p q

@@ -39,8 +39,8 @@ flag_settled κs a x e y f p q = p ∙ sym q
 pub hex_settled : (κs : _) (a : _) → Settles (hex.Post κs a) SameText
 hex_settled κs a x e y f p q = p ∙ sym q
 
-pub lower-hex_settled : (κs : _) (a : _) → Settles (lower-hex.Post κs a) SameText
-lower-hex_settled κs a x e y f p q = p ∙ sym q
+pub lower_hex_settled : (κs : _) (a : _) → Settles (lower-hex.Post κs a) SameText
+lower_hex_settled κs a x e y f p q = p ∙ sym q
 
 pub print_settled : (κs : _) (a : _) (g : _) (d : _) (h : _) (o : _) → Settles (print.Post κs a g d h o) SameCount
 print_settled κs a g d h o x e y f p q m n i j = (rw i at p) ∙ sym (rw j at q)

@@ -115,8 +115,8 @@ said_settled κs a x e y f p q = Uds.said (is x p) (is y q)
     is : (r : Reply) → ((count : ℕ) (room : List ℕ) → reply_of r count room ≡ read_reply (reading_of a.0 count room)) → r ≡ said_of a.0
     is r p = said_is a.0 r 0 (replicate room_size 0) (length-replicate {A = ℕ} room_size 0) (p 0 (replicate room_size 0))
 
-pub frames-valid_settled : (κs : _) (a : _) → Settles (frames-valid.Post κs a) Answer
-frames-valid_settled κs a x e y f p q = Uds.said p q
+pub frames_valid_settled : (κs : _) (a : _) → Settles (frames-valid.Post κs a) Answer
+frames_valid_settled κs a x e y f p q = Uds.said p q
 
 abbrev drained_of : ℕ → ℕ → ℕ → Drained
 drained_of a f n = record { result = a; frames = f; count = n }

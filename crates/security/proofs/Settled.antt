@@ -86,8 +86,8 @@ new_settled κs a x e y f p q = same_seen x.words y.words (said p q)
 pub is_locked_settled : (κs : _) (a : _) → Settles (is-locked.Post κs a) Answer
 is_locked_settled κs a x e y f p q = said p q
 
-pub failed-count_settled : (κs : _) (a : _) → Settles (failed-count.Post κs a) Answer
-failed-count_settled κs a x e y f p q = said p q
+pub failed_count_settled : (κs : _) (a : _) → Settles (failed-count.Post κs a) Answer
+failed_count_settled κs a x e y f p q = said p q
 
 pub increment_settled : (κs : _) (a : _) → Settles (increment.Post κs a) (λ x e y f. SameEntered x y e.0.now f.0.now)
 increment_settled κs a x e y f p q = same-entered x y e.0.now f.0.now p q

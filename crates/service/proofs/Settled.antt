@@ -81,8 +81,8 @@ same-wanted p q = record {
   queue = λ heads. said (p.unseen heads) (q.unseen heads);
 }
 
-pub part-of_settled : (κs : _) (a : _) → Settles (part_of.Post κs a) Answer
-part-of_settled κs a x e y f p q = ap made (said p q)
+pub part_of_settled : (κs : _) (a : _) → Settles (part_of.Post κs a) Answer
+part_of_settled κs a x e y f p q = ap made (said p q)
   where
     made : Rules.Part → Part
     made z = record { start = z.start; len = z.len }

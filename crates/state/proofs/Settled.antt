@@ -40,8 +40,8 @@ session e = ap made e
     made : Session → SessionState
     made a = record { last_rx = record { 0 = a.last_rx }; session_type = a.session_type; level = a.level }
 
-pub new-session_settled : (κs : _) (a : _) → Settles (new-session.Post κs a) Answer
-new-session_settled κs a x e y f p q = session (said p q)
+pub new_session_settled : (κs : _) (a : _) → Settles (new-session.Post κs a) Answer
+new_session_settled κs a x e y f p q = session (said p q)
 
 pub opened_settled : (κs : _) (a : _) → Settles (opened.Post κs a) Answer
 opened_settled κs a x e y f p q = session (said p q)
@@ -71,11 +71,11 @@ pending r r' z = go r.on r'.on refl refl z
     go false true e e' z = absurd (none-ne-some _ z)
     go false false e e' z = record { on = e ∙ sym e'; request = λ w. absurd (false≢true (sym e ∙ w)) }
 
-pub new-pending_settled : (κs : _) (a : _) → Settles (new-pending.Post κs a) (λ x e y f. SamePending x y)
-new-pending_settled κs a x e y f p q = pending x y (said p q)
+pub new_pending_settled : (κs : _) (a : _) → Settles (new-pending.Post κs a) (λ x e y f. SamePending x y)
+new_pending_settled κs a x e y f p q = pending x y (said p q)
 
-pub pending-valid_settled : (κs : _) (a : _) → Settles (pending-valid.Post κs a) Answer
-pending-valid_settled κs a x e y f p q = said p q
+pub pending_valid_settled : (κs : _) (a : _) → Settles (pending-valid.Post κs a) Answer
+pending_valid_settled κs a x e y f p q = said p q
 
 -- a request that becomes pending is all seen
 pub awaiting_settled : (κs : _) (a : _) → Settles (awaiting.Post κs a) Answer
@@ -118,8 +118,8 @@ state s s' config config' k k' subs subs' heads heads' room room' z = record {
   frames = as_many s.frames s'.frames heads heads' room room' (ap (λ (m : Model.State). m.queue) z);
 }
 
-pub new-state_settled : (κs : _) (a : _) → Settles (new-state.Post κs a) (λ x e y f. SameState x y)
-new-state_settled κs a x e y f p q = state x y [] [] [] [] [] [] [] [] [] [] (said (p [] [] [] [] [] refl) (q [] [] [] [] [] refl))
+pub new_state_settled : (κs : _) (a : _) → Settles (new-state.Post κs a) (λ x e y f. SameState x y)
+new_state_settled κs a x e y f p q = state x y [] [] [] [] [] [] [] [] [] [] (said (p [] [] [] [] [] refl) (q [] [] [] [] [] refl))
 
 -- of a reply the result, the pending request, and the queue that is seen
 pub record SameSaid (r r' : Said) (heads heads' room room' : List ℕ) : Type 0 where

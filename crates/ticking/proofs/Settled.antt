@@ -93,5 +93,5 @@ passed {subs = subs} {subs'} {heads} {heads'} {room} {room'} {count} {r = r} {r'
           lent = lent;
         }
 
-pub send-due_settled : (κs : _) (a : _) → Settles (send-due.Post κs a) (λ x e y f. SameSent a.1.0 x y e.0.now f.0.now e.1.1.1.0.now f.1.1.1.0.now e.1.1.1.1.0.now f.1.1.1.1.0.now)
-send-due_settled κs a x e y f p q = passed p q
+pub send_due_settled : (κs : _) (a : _) → Settles (send-due.Post κs a) (λ x e y f. SameSent a.1.0 x y e.0.now f.0.now e.1.1.1.0.now f.1.1.1.0.now e.1.1.1.1.0.now f.1.1.1.1.0.now)
+send_due_settled κs a x e y f p q = passed p q

@@ -163,8 +163,8 @@ high_nibble_settled κs a x e y f p q = said p q
 pub low_nibble_settled : (κs : _) (a : _) → Settles (low-nibble.Post κs a) Answer
 low_nibble_settled κs a x e y f p q = said p q
 
-pub periodic-did_settled : (κs : _) (a : _) → Settles (periodic-did.Post κs a) Answer
-periodic-did_settled κs a x e y f p q = said p q
+pub periodic_did_settled : (κs : _) (a : _) → Settles (periodic-did.Post κs a) Answer
+periodic_did_settled κs a x e y f p q = said p q
 
 pub response_settled : (κs : _) (a : _) → Settles (response.Post κs a) Answer
 response_settled κs a x e y f p q = said p q
@@ -172,8 +172,8 @@ response_settled κs a x e y f p q = said p q
 pub identifier_settled : (κs : _) (a : _) → Settles (identifier.Post κs a) Answer
 identifier_settled κs a x e y f p q = said p q
 
-pub frame-word_settled : (κs : _) (a : _) → Settles (frame-word.Post κs a) Answer
-frame-word_settled κs a x e y f p q = said p q
+pub frame_word_settled : (κs : _) (a : _) → Settles (frame-word.Post κs a) Answer
+frame_word_settled κs a x e y f p q = said p q
 
 pub two_bytes_settled : (κs : _) (a : _) → Settles (two_bytes.Post κs a) Answer
 two_bytes_settled κs a x e y f p q = bytes p q
@@ -204,35 +204,35 @@ programming_session_settled κs a x e y f p q = session p q
 pub extended_session_settled : (κs : _) (a : _) → Settles (extended-session.Post κs a) Answer
 extended_session_settled κs a x e y f p q = session p q
 
-pub session-within_settled : (κs : _) (a : _) → Settles (session-within.Post κs a) Answer
-session-within_settled κs a x e y f p q = said p q
+pub session_within_settled : (κs : _) (a : _) → Settles (session-within.Post κs a) Answer
+session_within_settled κs a x e y f p q = said p q
 
-pub service-new_settled : (κs : _) (a : _) → Settles (service-new.Post κs a) Answer
-service-new_settled κs a x e y f p q = said p q
+pub service_new_settled : (κs : _) (a : _) → Settles (service-new.Post κs a) Answer
+service_new_settled κs a x e y f p q = said p q
 
-pub service-secured_settled : (κs : _) (a : _) → Settles (service-secured.Post κs a) Answer
-service-secured_settled κs a x e y f p q = said p q
+pub service_secured_settled : (κs : _) (a : _) → Settles (service-secured.Post κs a) Answer
+service_secured_settled κs a x e y f p q = said p q
 
-pub service-within_settled : (κs : _) (a : _) → Settles (service-within.Post κs a) Answer
-service-within_settled κs a x e y f p q = said p q
+pub service_within_settled : (κs : _) (a : _) → Settles (service-within.Post κs a) Answer
+service_within_settled κs a x e y f p q = said p q
 
 pub read_only_settled : (κs : _) (a : _) → Settles (read_only_lem.Post κs a) Answer
 read_only_settled κs a x e y f p q = said p q
 
-pub read-write_settled : (κs : _) (a : _) → Settles (read-write.Post κs a) Answer
-read-write_settled κs a x e y f p q = said p q
+pub read_write_settled : (κs : _) (a : _) → Settles (read-write.Post κs a) Answer
+read_write_settled κs a x e y f p q = said p q
 
 pub periodic_settled : (κs : _) (a : _) → Settles (periodic.Post κs a) Answer
 periodic_settled κs a x e y f p q = said p q
 
-pub did-secured_settled : (κs : _) (a : _) → Settles (did-secured.Post κs a) Answer
-did-secured_settled κs a x e y f p q = said p q
+pub did_secured_settled : (κs : _) (a : _) → Settles (did-secured.Post κs a) Answer
+did_secured_settled κs a x e y f p q = said p q
 
-pub did-within_settled : (κs : _) (a : _) → Settles (did-within.Post κs a) Answer
-did-within_settled κs a x e y f p q = said p q
+pub did_within_settled : (κs : _) (a : _) → Settles (did-within.Post κs a) Answer
+did_within_settled κs a x e y f p q = said p q
 
-pub level-within_settled : (κs : _) (a : _) → Settles (level-within.Post κs a) Answer
-level-within_settled κs a x e y f p q = said p q
+pub level_within_settled : (κs : _) (a : _) → Settles (level-within.Post κs a) Answer
+level_within_settled κs a x e y f p q = said p q
 
 -- tables of words
 pub examined_settled : (κs : _) (a : _) → Settles (examined.Post κs a) Answer
@@ -248,11 +248,11 @@ pub find_settled : (κs : _) (a : _) → Settles (find.Post κs a) Answer
 find_settled κs a x e y f p q = found p q
 
 -- values
-pub find-value_settled : (κs : _) (a : _) → Settles (find-value.Post κs a) Answer
-find-value_settled κs a x e y f p q = looked_up p q
+pub find_value_settled : (κs : _) (a : _) → Settles (find-value.Post κs a) Answer
+find_value_settled κs a x e y f p q = looked_up p q
 
-pub row-value_settled : (κs : _) (a : _) → Settles (row-value.Post κs a) Answer
-row-value_settled κs a x e y f p q = reading _ _ _ x y p q
+pub row_value_settled : (κs : _) (a : _) → Settles (row-value.Post κs a) Answer
+row_value_settled κs a x e y f p q = reading _ _ _ x y p q
 
 pub value_settled : (κs : _) (a : _) → Settles (value.Post κs a) Answer
 value_settled κs a x e y f p q = reading _ _ _ x y p q
