@@ -14,7 +14,6 @@ use Rattle.model.specs.Config.{Config, SecurityLevelConfig, find_level, within}
 use Rattle.model.specs.Frame.{sub_function}
 use Rattle.model.specs.State.{Security, security_valid, lock_valid, cleared}
 use Rattle.model.specs.Queue.{positive, negative}
-use Rattle.model.specs.Values.{outcome}
 use Rattle.model.specs.Service.{Seen, Part, part, says, secures, asks, refuses}
 use Rattle.model.specs.Service27.{locked, awaits, key_fits, seeded, seed_given, seed_asked, request_seed, send_key, accepted, judged, denied, increment_failed, security_access, service27}
 use Rattle.model.proofs.Laws.{left, right, within-length}

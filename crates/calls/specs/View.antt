@@ -1,7 +1,6 @@
 -- From what a question, a tick and a drain answer to the definition's.
 use Rattle.std.specs.Prelude.{ℕ, List}
 use Rattle.model.specs.Numbers.{Moment}
-use Rattle.model.specs.State as Model
 use Rattle.model.specs.Request.{Inbound}
 use Rattle.model.specs.Question as Question
 use Rattle.model.specs.Tick as Tick

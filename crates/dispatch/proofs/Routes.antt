@@ -1,10 +1,9 @@
 -- Which service a first byte names, and what comes before it.
-use Prim.Native.Nat.{ℕ, ◌≤◌}
+use Prim.Native.Nat.{ℕ}
 use mathlib.Core.Path.{◌≡◌, refl, ap, sym, ◌∙◌}
-use mathlib.Core.Bool.{Bool, true, false}
+use mathlib.Core.Bool.{true, false}
 use mathlib.Core.List.{List}
 use mathlib.Core.Option.{Option, some, none}
-use lib.Dec.{eqb}
 use borrow.Author.Tests.{ne_eqb}
 use Rattle.model.specs.Config.{ServiceConfig, find_service, allowed_in}
 use Rattle.model.specs.Service.{Seen, Served, refuses}

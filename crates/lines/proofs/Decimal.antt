@@ -1,14 +1,11 @@
 -- The kit's digits of a number, the fewest that hold it, are the number's decimal digits.
 use Prim.Native.Nat.{ℕ, zero, suc, ◌+◌, ◌-◌, ◌*◌, ◌/◌, ◌%◌, ◌^◌, ◌≤◌, ◌<◌}
-use mathlib.Core.Path.{◌≡◌, refl, ap, sym, ◌∙◌}
-use mathlib.Core.Bool.{cond}
-use mathlib.Core.List.{List, [], ◌∷◌, ◌++◌}
+use mathlib.Core.Path.{◌≡◌}
 use native.Mathlib.Nat.{pow-suc, one-le-pow, pow-le-pow_right, mod-lt, div-lt_iff_lt-mul, le-div_iff_mul-le}
 use native.Mathlib.Decide.{dec_le}
 use native.Mathlib.Numerals.{unary_clauses}
 use native.Mathlib.Omega.{arith}
 use borrow.Author.Tests.{lt-ltb, le-ltb}
-use lib.Dec.{ltb}
 use Rattle.io.specs.Digits.{hex_digit_ascii, last_digits, IsDigitCount}
 use Rattle.model.specs.Text.{decimal_in, decimal}
 

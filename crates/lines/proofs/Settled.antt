@@ -1,6 +1,6 @@
 -- Nothing else meets the promises: two lines that meet one say the same. Each public function by its contract.
 use mathlib.Core.Path.{◌≡◌, sym, ◌∙◌}
-use Rattle.std.specs.Prelude.{ℕ, Result, Ok, IfOk, length, ◌+◌}
+use Rattle.std.specs.Prelude.{ℕ, Result, Ok}
 use Rattle.uds.proofs.Promise.{Settles}
 use Rattle.lines.specs.declared.Line.{Line}
 use Rattle.lines.specs.View.{text_of}

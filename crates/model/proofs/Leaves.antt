@@ -15,11 +15,11 @@ use lib.ListN.{length}
 use lib.Dec.{leb}
 use borrow.Author.Tests.{leb-true, leb-false, le-leb, lt-leb}
 use Rattle.model.specs.Tests.{pick, memb}
-use Rattle.model.specs.Numbers.{Moment, max_time, max_request, max_outbox}
+use Rattle.model.specs.Numbers.{Moment, max_time, max_request}
 use Rattle.model.specs.Config.{Config, empty_config, within}
 use Rattle.model.specs.Frame.{sid_of, negative_frame}
 use Rattle.model.specs.State.{AddressMode, PendingRequest, State, Step, step, fresh_state, fresh, valid, with_pending, received}
-use Rattle.model.specs.Request.{Request, Answer, plain, served, carried, length_fits, heard, addressed, routed, request}
+use Rattle.model.specs.Request.{Request, plain, served, carried, length_fits, heard, addressed, routed, request}
 use Rattle.model.specs.Pending.{completed, failed, complete, fail}
 use Rattle.model.specs.Queue as Queue
 use Rattle.model.specs.Queue.{records, written, drained}

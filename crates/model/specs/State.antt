@@ -1,7 +1,7 @@
 -- What a server holds, what a fresh one holds, and when a state is valid.
 use Rattle.std.specs.Prelude.{ℕ, ◌+◌, Bool, true, ◌&&◌, List, [], length, nat_le, nat_lt}
 use Rattle.std.proofs.Math.Option.{Option, some, none}
-use Rattle.model.specs.Tests.{pick, all}
+use Rattle.model.specs.Tests.{pick}
 use Rattle.model.specs.Numbers.{Moment, Span, max_outbox, max_levels, max_seed, max_periodic, max_time, max_span}
 use Rattle.model.specs.Config.{Config, empty_config, within, table_within}
 use Rattle.model.specs.Frame.{Frame}

@@ -11,7 +11,6 @@ use lib.Dec.{eqb}
 use borrow.Author.Tests.{eqb-true, eqb-false}
 use Rattle.model.specs.Numbers.{Moment, Span, max_periodic}
 use Rattle.model.specs.State.{Subscription, fresh_periodic}
-use Rattle.uds.specs.declared.table.Found.TheVariants.{Nothing}
 use Rattle.uds.proofs.Promise.{Settles, Answer}
 use Rattle.uds.proofs.Settled as uds
 use Rattle.uds.proofs.Settled.{said}

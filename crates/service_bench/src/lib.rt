@@ -1,5 +1,6 @@
 // The services for callers in Rust or C, so that each can be run and measured alone. A slice passes as its first element and its length.
 #![tactic(auto)]
+
 ghost use Rattle.std.specs.Prelude.{◌≡◌, ℕ, List};
 ghost use Rattle.model.specs.Service.{Seen};
 ghost use Rattle.model.specs.Service10 as S10;

@@ -1,5 +1,5 @@
 -- Moments and spans: what their sum is at the end of time.
-use Rattle.std.specs.Prelude.{ℕ, ◌+◌, ◌-◌, ◌^◌, min, max}
+use Rattle.std.specs.Prelude.{◌+◌, ◌-◌, ◌^◌, min, max}
 use Rattle.model.specs.Numbers.{Moment, Span}
 
 -- the last moment that a clock can tell

@@ -2,7 +2,6 @@
 use Prim.Native.Nat.{ℕ}
 use mathlib.Core.List.{List, [], ◌∷◌, map}
 use mathlib.Core.Option.{some, none}
-use Rattle.model.specs.Iso
 use Rattle.model.specs.Config.{SessionConfig, DidConfig, SecurityLevelConfig, Config}
 use Rattle.model.specs.Values.{Given, given0, Table, empty_table}
 use Rattle.model.specs.Frame.{Frame}

@@ -20,7 +20,7 @@ use Rattle.model.specs.Frame.{positive_frame, negative_frame}
 use Rattle.model.specs.Values.{bytes}
 use Rattle.model.specs.Service.{Seen, Effect, changed, changed_after, apply}
 use Rattle.model.specs.Service11.{reset}
-use Rattle.model.proofs.Laws.{either, Each, memb-each}
+use Rattle.model.proofs.Laws.{either, Each}
 
 -- where 16 frames are held, a frame to be queued meets 3 and leaves the state that it was given
 pub queued-full : (s : State) (to : ℕ) (b : List ℕ) → max_outbox ≤ length s.queue → queued s to b ≡ step 3 s

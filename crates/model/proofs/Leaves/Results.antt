@@ -14,7 +14,7 @@ use Rattle.model.specs.Numbers.{Moment, max_time, max_outbox}
 use Rattle.model.specs.Values.{Outcome, bytes, error, Table, value}
 use Rattle.model.specs.Frame.{sid_of, negative_frame}
 use Rattle.model.specs.State.{AddressMode, Subscription, PendingRequest, State, Step, step, valid, with_pending, received}
-use Rattle.model.specs.Reply.{queued, confirmed, begun}
+use Rattle.model.specs.Reply.{begun}
 use Rattle.model.specs.Service.{no_act}
 use Rattle.model.specs.Request.{Request, Answer, served, carried, length_fits, heard, addressed, routed, request}
 use Rattle.model.specs.Question.{bare, asked_of, question}

@@ -1,4 +1,4 @@
-use Rattle.std.proofs.Common.{arith, ◌<◌}
+use Rattle.std.proofs.Common.{arith}
 use Rattle.security.proofs.Levels.{found_below}
 use Rattle.security.proofs.enter.Goals as goal
 

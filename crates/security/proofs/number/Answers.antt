@@ -1,4 +1,4 @@
-use Rattle.std.proofs.Common.{arith, ◌<◌}
+use Rattle.std.proofs.Common.{arith}
 use Rattle.security.proofs.Levels.{found_below, number_at_lem}
 use Rattle.security.proofs.number.Goals as goal
 

@@ -1,4 +1,4 @@
-use Rattle.std.proofs.Common.{arith, rules, ◌<◌}
+use Rattle.std.proofs.Common.{arith, rules}
 use Rattle.security.proofs.Levels.{found_below, reset_one, reset-none}
 use Rattle.security.proofs.reset.Goals as goal
 
