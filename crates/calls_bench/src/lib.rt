@@ -1,6 +1,7 @@
 // The calls by the lent door for callers in Rust or C, so that each can be run and measured. A slice passes as its first element and
 // its length.
 #![tactic(auto)]
+
 ghost use Rattle.std.specs.Prelude.{◌≡◌};
 ghost use Rattle.model.specs.Numbers.{max_frame};
 ghost use Rattle.model.specs.Request as Request;

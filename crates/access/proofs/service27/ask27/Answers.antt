@@ -8,7 +8,6 @@ returns-then-not-ready c = let a = c.args in λ v.
     let u = secured a.k.now (received_at a.t.0 (asking a.payload.now (configured a.config.now v))) in
     record { asked = refused-access u (sym c.ready.ensures ∙ c.if-not-ready.true) }
 
-
 pub returns : goal.returns
 returns c = let a = c.args in λ v.
     let u = secured a.k.now (received_at a.t.0 (asking a.payload.now (configured a.config.now v))) in

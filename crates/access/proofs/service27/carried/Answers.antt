@@ -16,7 +16,6 @@ returns-then-access-eq1 c = let a = c.args in (
   ap (λ (x : Effect). x.waits) c.says.ensures,
 )
 
-
 pub returns-then-code-eq0 : goal.returns-then-code-eq0
 returns-then-code-eq0 c = let a = c.args in (
   λ v subs.
@@ -25,7 +24,6 @@ returns-then-code-eq0 c = let a = c.args in (
       leaves-effect access27 w a.session a.held a.subscriptions a.frames a.k.now subs a.room.now _ c.below-level.result _ c.accept-reply.result c.says-then-code-eq0.result _ c.says-then-code-eq0.ensures (leaves_as u a.frames a.room.now (accepts u a.access a.code a.given.now c.if-access-eq1.false c.below-level.result c.below-level.ensures c.if-code-eq0.true) (c.accept-reply.ensures u)),
   ap (λ (x : Effect). x.waits) c.says-then-code-eq0.ensures,
 )
-
 
 pub returns : goal.returns
 returns c = let a = c.args in (

@@ -15,13 +15,11 @@ returns-then-not-ready c = let a = c.args in λ v subs.
     let u = seen access27 w a.session a.level a.subscriptions a.frames a.k.now subs a.room.now in
     serves_refused access27 w a.session a.level a.subscriptions a.frames a.k.now subs a.room.now 0x22 c.refused.result c.refused.ensures (refused-access u (sym c.ready.ensures ∙ c.if-not-ready.true))
 
-
 pub returns-in-Refused : goal.returns-in-Refused
 returns-in-Refused c = let a = c.args in λ v subs.
     let w = received_at a.t.0 (asking a.payload.now (configured a.config.now (handed a.err a.given.now v))) in
     let u = seen access27 w a.session a.level a.subscriptions a.frames a.k.now subs a.room.now in
     serves_refused access27 w a.session a.level a.subscriptions a.frames a.k.now subs a.room.now c.in-Refused.code c.refused-in-Refused.result c.refused-in-Refused.ensures (ready-access u (sym c.ready.ensures ∙ c.if-not-ready.false) ∙ rw c.in-Refused.is at (c.ask_access.ensures u).asked)
-
 
 pub returns-in-Asks : goal.returns-in-Asks
 returns-in-Asks c = let a = c.args in λ v subs.
