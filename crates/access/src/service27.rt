@@ -22,6 +22,9 @@ use uds::clock::Instant;
 use uds::nrc::Nrc;
 use uds::table::Found;
 
+// A seed of so many bytes fills the place that is kept for one, and is not sent.
+const MAX_SEED: usize = 32;
+
 // What every call has shown before a service is asked: numbers that are kept, and a time of at most 2^48.
 fn ready(config: &Config, k: &Security, t: Instant) -> bool
     ensures { result ≡ ready27 (config_of config.now) (security_of k.now) t.0 }
@@ -140,7 +143,7 @@ fn give_seed(
         security::clear(k);
         return Reply::Negative(Nrc::CONDITIONS_NOT_CORRECT);
     }
-    if 32 <= given.len() {
+    if MAX_SEED <= given.len() {
         security::clear(k);
         return Reply::Negative(Nrc::RESPONSE_TOO_LONG);
     }

@@ -11,7 +11,7 @@ use Rattle.model.specs.State.{AddressMode, physical}
 use Rattle.model.specs.Queue.{withheld, leaves, pushed, refused, confirmed, sent}
 use Rattle.queue.specs.View.{queue_of, step_of, Pushes}
 use Rattle.queue.specs.declared.reply.Pushed.{Pushed}
-use Rattle.queue.proofs.Room.{Stands}
+use Rattle.queue.proofs.Room.{Stands, draft_length}
 
 -- a frame that stands in the free place, pushed
 pub queues : {count to n : ℕ} {bytes heads heads' room room' : List ℕ} {r : Pushed} → Stands count bytes n room room' → Pushes count to n heads r heads'
@@ -48,3 +48,6 @@ module _ (mode : AddressMode) (q : List Frame) (to sid : ℕ) where
   pub refused-said : (code : ℕ) → withheld mode code ≡ false → pushed q to (negative_frame sid code) ≡ refused mode q to sid code
   unfolding refused
   refused-said code e = rw e
+
+-- a frame with a byte before a draft is as long as that says
+pub ruleset drafted_frames = (sent-long, draft_length)

@@ -81,6 +81,7 @@ pub fn refuse(
 }
 
 // The reply in the making behind a first byte, or 4 where that exceeds a frame: so a periodic identifier's value is sent.
+#[tactic(auto, using(crate::proofs::Laws::drafted_frames))]
 pub fn send(count: u8, heads: &mut Heads, room: &mut Room, to: u32, first: u8, len: usize) -> Pushed
     ensures { step_of result heads.new room.new ≡ sent max_frame (queue_of count heads.old room.old) to (first ∷ draft_of count len room.old) }
 {

@@ -1,14 +1,8 @@
 use Rattle.std.proofs.Common.{arith, length, rules, ◌∙◌, ◌∷◌, ◌≡◌}
 use Rattle.queue.specs.View.{queue_of, draft_of}
 use Rattle.queue.proofs.Room.{leads, draft_length}
-use Rattle.queue.proofs.Laws.{queues, sent-short, sent-long}
+use Rattle.queue.proofs.Laws.{queues, sent-short}
 use Rattle.queue.proofs.reply.send.Goals as goal
-
-pub returns-then-len-ge-MAX_FRAME : goal.returns-then-len-ge-MAX_FRAME
-returns-then-len-ge-MAX_FRAME c =
-    let a = c.args in
-    let z : length a.room.now ≡ 4353 = search rules in
-    sent-long (queue_of a.count a.heads.now a.room.now) a.to (a.first ∷ draft_of a.count a.len a.room.now) (omega (arith, draft_length a.count a.len a.room.now z))
 
 pub returns : goal.returns
 returns c =
