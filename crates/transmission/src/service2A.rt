@@ -18,6 +18,8 @@ use uds::nrc::{Nrc, Rate};
 
 const MAX_PERIODIC: u8 = 16;
 
+const MAX_TIME: u64 = Instant::MAX_TIME;
+
 // The modes: from slow to fast they register, and one cancels.
 const SLOW: u8 = 1;
 
@@ -222,7 +224,7 @@ fn guarded(
     if MAX_PERIODIC < subscriptions {
         return refused(Nrc::CONDITIONS_NOT_CORRECT, subscriptions);
     }
-    if Instant::MAX_TIME < t.0 {
+    if MAX_TIME < t.0 {
         return refused(Nrc::CONDITIONS_NOT_CORRECT, subscriptions);
     }
     transmission(
