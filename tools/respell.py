@@ -21,8 +21,9 @@ CLAUSE = re.compile(r"ghost use\b[^;]*;|\b(?:requires|ensures)\b\*?\s*(?:\w+\s*)
 TESTS = {"eqb": "nat_eq", "ltb": "nat_lt", "leb": "nat_le"}
 # What is added to a function's name, which keeps its own spelling: no name of a definition.
 ENDINGS = {"settled", "spec", "reads", "requires"}
-# Two lemmas that would fall together with a definition that their own module imports.
+# The standard's own words, which comments keep; the names of specs/Iso.antt join them.
 STANDARD = {"requestSeed", "sendKey", "powerDownTime"}
+# Two lemmas that would fall together with a definition that their own module imports.
 APART = {"crates/model/": {"two_bytes": "two_bytes_lem", "reserved-level": "reserved_level_departs"}}
 
 
