@@ -2,7 +2,7 @@
 
 use crate::queue::{Arrays, Heads, Queue, Room};
 
-// Nothing checks these against the Rattle source: they are `Pushed` and `Drained` of `crates/queue`, and the functions of
+// Nothing checks these against the Rattle source: they are `Drained` of `crates/queue`, and `Pushed` and the functions of
 // `crates/queue_bench`, where a slice passes as its first byte and its length. The comparison would show a slip.
 #[repr(C)]
 struct Pushed {

@@ -13,5 +13,5 @@ ask27_settled κs a x e y f p q = same_asked (p blank) (q blank)
 
 -- of the security words as it leaves them
 pub service27_settled : (κs : _) (a : _)
-    → Settles (service27.Post κs a) (λ x e y f. (subs : List ℕ) → SameWanted a.1.1.1.1.1.1.0.0 a.1.1.1.1.0 x y e.1.1.1.1.1.1.1.1.1.0.now f.1.1.1.1.1.1.1.1.1.0.now subs subs e.1.1.1.1.1.1.1.1.1.1.0.now f.1.1.1.1.1.1.1.1.1.1.0.now)
+    → Settles (service27.Post κs a) (λ x e y f. (subs : List ℕ) → SameWanted a.0.now.t.0 a.0.now.frames x y e.1.0.now f.1.0.now subs subs e.1.1.0.now f.1.1.0.now)
 service27_settled κs a x e y f p q subs = same-wanted (p blank subs) (q blank subs)

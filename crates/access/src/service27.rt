@@ -16,130 +16,117 @@ use config::Config;
 use queue::Room;
 use queue::reply::Reply;
 use security::Security;
-use service::{Act, Ask, Part, Wanted, says};
+use service::{Act, Part, Request, Wanted};
 use state::apply::Effect;
 use uds::clock::Instant;
 use uds::nrc::Nrc;
-use uds::table::Found;
 
 // A seed of so many bytes fills the place that is kept for one, and is not sent.
 const MAX_SEED: usize = 32;
 
 // What every call has shown before a service is asked: numbers that are kept, and a time of at most 2^48.
-fn ready(config: &Config, k: &Security, t: Instant) -> bool
-    ensures { result ≡ ready27 (config_of config.now) (security_of k.now) t.0 }
+fn ready(request: &Request, k: &Security) -> bool
+    ensures { result ≡ ready27 (config_of request.now.config.now) (security_of k.now) request.now.t.0 }
 {
-    if !config::within(config) {
-        return false;
-    }
-    if !security::is_valid(k) {
-        return false;
-    }
-    t.0 <= Instant::MAX_TIME
+    config::within(request.config) && security::is_valid(k) && request.t.0 <= Instant::MAX_TIME
 }
 
 // A seed is asked: locked 0x37, a level that has no row 0x12.
-fn ask_seed(config: &Config, k: &Security, level: u8, t: Instant) -> Ask
-    requires { ready27 (config_of config.now) (security_of k.now) t.0 ≡ true }
-    ensures { (v : Seen) → Asked (λ u. Rules.request_seed u level) (later_seed level) (secured k.now (received_at t.0 (configured config.now v))) result }
+fn ask_seed(request: &Request, k: &Security, level: u8) -> Result<Act, u8>
+    requires { ready27 (config_of request.now.config.now) (security_of k.now) request.now.t.0 ≡ true }
+    ensures { (v : Seen) → Asked (λ u. Rules.request_seed u level) (later_seed level) (secured k.now (received_at request.now.t.0 (configured request.now.config.now v))) result }
 {
-    if security::is_locked(k, level, t) {
-        return Ask::Refused(Nrc::REQUIRED_TIME_DELAY_NOT_EXPIRED);
+    if security::is_locked(k, level, request.t) {
+        return Err(Nrc::REQUIRED_TIME_DELAY_NOT_EXPIRED);
     }
-    let Found::At(_) = config::find_security_level(config, level) else {
-        return Ask::Refused(Nrc::SUB_FUNCTION_NOT_SUPPORTED);
-    };
-    let act = Act {
+    if config::find_security_level(request.config, level).is_none() {
+        return Err(Nrc::SUB_FUNCTION_NOT_SUPPORTED);
+    }
+    Ok(Act {
         a: Part::of(1, 1),
         b: Part::NONE,
         c: Part::NONE,
         number: 0x27,
         parts: 1,
-    };
-    Ask::Asks(act)
+    })
 }
 
 // The key has its configured length, if the level has a row.
 fn key_fits(config: &Config, level: u8, len: usize) -> bool
     ensures { result ≡ Rules.key_fits len (find_level (config_of config.now) level) }
 {
-    let found = config::find_security_level(config, level);
-    let Found::At(_) = found else {
-        return true;
-    };
-    len == config::key_length(config, found)
+    let row = config::find_security_level(config, level);
+    row.is_none() || len == config::key_length(config, row)
 }
 
 // A key is sent: locked 0x37; no seed of the level awaits one 0x24; of another length 0x13, the seed kept and nothing counted.
-fn ask_key(config: &Config, k: &Security, level: u8, payload: &[u8], t: Instant) -> Ask
-    requires { (ready27 (config_of config.now) (security_of k.now) t.0 ≡ true) × (1 ≤ length payload.now) }
-    ensures { (v : Seen) → Asked (λ u. Rules.send_key u level) (later_key level) (secured k.now (received_at t.0 (asking payload.now (configured config.now v)))) result }
+fn ask_key(request: &Request, k: &Security, level: u8) -> Result<Act, u8>
+    requires { (ready27 (config_of request.now.config.now) (security_of k.now) request.now.t.0 ≡ true) × (1 ≤ length request.now.payload.now) }
+    ensures { (v : Seen) → Asked (λ u. Rules.send_key u level) (later_key level) (secured k.now (received_at request.now.t.0 (asking request.now.payload.now (configured request.now.config.now v)))) result }
 {
-    if security::is_locked(k, level, t) {
-        return Ask::Refused(Nrc::REQUIRED_TIME_DELAY_NOT_EXPIRED);
+    if security::is_locked(k, level, request.t) {
+        return Err(Nrc::REQUIRED_TIME_DELAY_NOT_EXPIRED);
     }
     if !security::awaits(k, level) {
-        return Ask::Refused(Nrc::REQUEST_SEQUENCE_ERROR);
+        return Err(Nrc::REQUEST_SEQUENCE_ERROR);
     }
-    let len = payload.len() - 1;
-    if !key_fits(config, level, len) {
-        return Ask::Refused(Nrc::INCORRECT_MESSAGE_LENGTH_OR_INVALID_FORMAT);
+    let len = request.payload.len() - 1;
+    if !key_fits(request.config, level, len) {
+        return Err(Nrc::INCORRECT_MESSAGE_LENGTH_OR_INVALID_FORMAT);
     }
-    let act = Act {
+    Ok(Act {
         a: Part::of(1, 1),
         b: Part::of(2, len),
         c: Part::NONE,
         number: 0x27,
         parts: 2,
-    };
-    Ask::Asks(act)
+    })
 }
 
 // Absent is short, access type 0 is 0x12.
-fn ask_access(config: &Config, k: &Security, payload: &[u8], t: Instant) -> Ask
-    requires { ready27 (config_of config.now) (security_of k.now) t.0 ≡ true }
-    ensures { (v : Seen) → Asked Rules.service27 later27 (secured k.now (received_at t.0 (asking payload.now (configured config.now v)))) result }
+fn ask_access(request: &Request, k: &Security) -> Result<Act, u8>
+    requires { ready27 (config_of request.now.config.now) (security_of k.now) request.now.t.0 ≡ true }
+    ensures { (v : Seen) → Asked Rules.service27 later27 (secured k.now (received_at request.now.t.0 (asking request.now.payload.now (configured request.now.config.now v)))) result }
 {
-    if payload.len() < 1 {
-        return Ask::Refused(Nrc::INCORRECT_MESSAGE_LENGTH_OR_INVALID_FORMAT);
+    if request.payload.is_empty() {
+        return Err(Nrc::INCORRECT_MESSAGE_LENGTH_OR_INVALID_FORMAT);
     }
-    let access = uds::frame::sub_function(payload);
+    let access = uds::frame::sub_function(request.payload);
     if access == 0 {
-        return Ask::Refused(Nrc::SUB_FUNCTION_NOT_SUPPORTED);
+        return Err(Nrc::SUB_FUNCTION_NOT_SUPPORTED);
     }
     if access % 2 == 1 {
-        return ask_seed(config, k, access, t);
+        return ask_seed(request, k, access);
     }
-    ask_key(config, k, access - 1, payload, t)
+    ask_key(request, k, access - 1)
 }
 
 // Before the act's outcome is known. It only reads.
-pub fn ask27(config: &Config, k: &Security, payload: &[u8], t: Instant) -> Ask
-    ensures { (v : Seen) → Asked access27 later27 (secured k.now (received_at t.0 (asking payload.now (configured config.now v)))) result }
+pub fn ask27(request: &Request, k: &Security) -> Result<Act, u8>
+    ensures { (v : Seen) → Asked access27 later27 (secured k.now (received_at request.now.t.0 (asking request.now.payload.now (configured request.now.config.now v)))) result }
 {
-    if !ready(config, k, t) {
-        return Ask::Refused(Nrc::CONDITIONS_NOT_CORRECT);
+    if !ready(request, k) {
+        return Err(Nrc::CONDITIONS_NOT_CORRECT);
     }
-    ask_access(config, k, payload, t)
+    ask_access(request, k)
 }
 
 // An error is 0x22, and the old seed stays; a wrong length is 0x22, and a seed of 32 is 0x14, and none awaits its key then.
 fn give_seed(
-    config: &Config,
+    request: &Request,
     level: u8,
-    frames: u8,
-    code: u8,
-    given: &[u8],
+    outcome: Result<(), u8>,
     k: &mut Security,
     room: &mut Room,
 ) -> Reply
-    ensures { (v : Seen) → Leaves (Rules.seed_given (secured k.old v) level (row_or (find_level (config_of config.now) level)) (outcome_of code given.now)) v v.session.level frames room.old result k.new room.new }
+    ensures { (v : Seen) → Leaves (Rules.seed_given (secured k.old v) level (row_or (find_level (config_of request.now.config.now) level)) (outcome_of outcome request.now.given.now)) v v.session.level request.now.frames room.old result k.new room.new }
 {
-    if code != 0 {
+    if outcome.is_err() {
         return Reply::Negative(Nrc::CONDITIONS_NOT_CORRECT);
     }
-    let found = config::find_security_level(config, level);
-    if given.len() != config::seed_length(config, found) {
+    let given = request.given;
+    let row = config::find_security_level(request.config, level);
+    if given.len() != config::seed_length(request.config, row) {
         security::clear(k);
         return Reply::Negative(Nrc::CONDITIONS_NOT_CORRECT);
     }
@@ -148,7 +135,7 @@ fn give_seed(
         return Reply::Negative(Nrc::RESPONSE_TOO_LONG);
     }
     security::seed(k, level, given);
-    service::joined(frames, &[level], given, room)
+    service::joined(request.frames, &[level], given, room)
 }
 
 // Accepted: the count is 0, the seed cleared, the access type echoed.
@@ -162,6 +149,7 @@ fn accept(level: u8, frames: u8, k: &mut Security, room: &mut Room) -> Reply
 }
 
 // Refused: the seed cleared and the count up, 0x35; at the last attempt the level is locked, 0x36; 0x22 where a list lacks room.
+// It answers a code and no `Result`, since each way out of it refuses.
 fn deny(config: &Config, level: u8, t: Instant, k: &mut Security) -> u8
     requires { ready27 (config_of config.now) (security_of k.old) t.0 ≡ true }
     ensures { (v : Seen) → Rules.denied (secured k.old (received_at t.0 v)) level (find_level (config_of config.now) level) (Rules.increment_failed level (security_of k.old).failed) ≡ secures v (security_of k.new) (negative result) }
@@ -170,95 +158,57 @@ fn deny(config: &Config, level: u8, t: Instant, k: &mut Security) -> u8
     if !security::increment(k, level) {
         return Nrc::CONDITIONS_NOT_CORRECT;
     }
-    let found = config::find_security_level(config, level);
-    let most = config::max_attempts(config, found) as u64;
+    let row = config::find_security_level(config, level);
+    let most = u64::from(config::max_attempts(config, row));
     if security::failed_count(k, level) < most {
         return Nrc::INVALID_KEY;
     }
-    let until = t.plus(config::lockout(config, found));
+    let until = t.plus(config::lockout(config, row));
     if !security::lock(k, level, until) {
         return Nrc::CONDITIONS_NOT_CORRECT;
     }
     Nrc::EXCEEDED_NUMBER_OF_ATTEMPTS
 }
 
-// The level whose key an even access type sends.
-fn below(n: u8) -> u8
-    ensures { result ≡ n - 1 }
-{
-    if n == 0 {
-        return 0;
-    }
-    n - 1
-}
-
 // What comes of the outcome: a seed, or a key that was accepted or refused.
 fn carried(
-    config: &Config,
-    session: u8,
-    held: u8,
-    subscriptions: u8,
-    frames: u8,
+    request: &Request,
     access: u8,
-    t: Instant,
-    code: u8,
-    given: &[u8],
+    outcome: Result<(), u8>,
     k: &mut Security,
     room: &mut Room,
 ) -> Effect
-    requires { (ready27 (config_of config.now) (security_of k.old) t.0 ≡ true) × (access < 128) }
-    ensures { (((v : Seen) (subs : List ℕ) → Effects (outcome27 (in_session session held (secured k.old (subscribed subscriptions subs (received_at t.0 (configured config.now v))))) access (outcome_of code given.now)) t.0 k.new subs frames room.old result room.new)) × (result.waits ≡ false) }
+    requires { (ready27 (config_of request.now.config.now) (security_of k.old) request.now.t.0 ≡ true) × (access < 128) }
+    ensures { (((v : Seen) (subs : List ℕ) → Effects (outcome27 (in_session request.now.session request.now.level (secured k.old (subscribed request.now.subscriptions subs (received_at request.now.t.0 (configured request.now.config.now v))))) access (outcome_of outcome request.now.given.now)) request.now.t.0 k.new subs request.now.frames room.old result room.new)) × (result.waits ≡ false) }
 {
     if access % 2 == 1 {
-        let reply = give_seed(config, access, frames, code, given, k, room);
-        return says(session, held, subscriptions, reply);
+        let reply = give_seed(request, access, outcome, k, room);
+        return request.says(reply);
     }
-    let level = below(access);
-    if code == 0 {
-        let reply = accept(level, frames, k, room);
-        return says(session, level, subscriptions, reply);
+    let level = access.saturating_sub(1);
+    if outcome.is_ok() {
+        let reply = accept(level, request.frames, k, room);
+        return Effect {
+            level,
+            ..request.says(reply)
+        };
     }
-    let refusal = deny(config, level, t, k);
-    says(session, held, subscriptions, Reply::Negative(refusal))
+    let refusal = deny(request.config, level, request.t, k);
+    request.says(Reply::Negative(refusal))
 }
 
-pub fn service27(
-    config: &Config,
-    session: u8,
-    level: u8,
-    subscriptions: u8,
-    frames: u8,
-    payload: &[u8],
-    t: Instant,
-    err: u8,
-    given: &[u8],
-    k: &mut Security,
-    room: &mut Room,
-) -> Wanted
-    ensures { (v : Seen) (subs : List ℕ) → Serves access27 (in_session session level (secured k.old (subscribed subscriptions subs (received_at t.0 (asking payload.now (configured config.now (handed err given.now v))))))) k.old subs frames room.old result k.new subs room.new }
+pub fn service27(request: &Request, k: &mut Security, room: &mut Room) -> Wanted
+    ensures { (v : Seen) (subs : List ℕ) → Serves access27 (in_session request.now.session request.now.level (secured k.old (subscribed request.now.subscriptions subs (received_at request.now.t.0 (asking request.now.payload.now (configured request.now.config.now (handed request.now.err request.now.given.now v))))))) k.old subs request.now.frames room.old result k.new subs room.new }
 {
-    if !ready(config, k, t) {
-        return service::refused(session, level, subscriptions, Nrc::CONDITIONS_NOT_CORRECT);
+    if !ready(request, k) {
+        return request.refused(Nrc::CONDITIONS_NOT_CORRECT);
     }
-    match ask_access(config, k, payload, t) {
-        Ask::Refused(code) => service::refused(session, level, subscriptions, code),
-        Ask::Asks(act) => {
-            let code = service::outcome(err, given, 256);
-            let access = uds::frame::sub_function(payload);
+    match ask_access(request, k) {
+        Err(code) => request.refused(code),
+        Ok(act) => {
+            let access = uds::frame::sub_function(request.payload);
             Wanted {
-                effect: carried(
-                    config,
-                    session,
-                    level,
-                    subscriptions,
-                    frames,
-                    access,
-                    t,
-                    code,
-                    given,
-                    k,
-                    room,
-                ),
+                effect: carried(request, access, request.outcome(256), k, room),
                 act,
             }
         }

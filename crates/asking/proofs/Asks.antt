@@ -1,10 +1,9 @@
 -- What a service's own question says of its act.
 use mathlib.Core.Path.{◌≡◌, ap, sym, ◌∙◌}
 use Rattle.model.specs.Service.{Seen, Served, Effect, no_act, refuses}
-use Rattle.service.specs.Act.{act_of, asked_of, Asked}
+use Rattle.service.specs.Act.{act_of, Ask, asked_of, Asked}
 use Rattle.service.specs.declared.Act.{Act}
-use Rattle.service.specs.declared.Ask.{Ask}
-use Rattle.service.specs.declared.Ask.TheVariants.{Asks}
+use Rattle.std.specs.Prelude.{Ok}
 
 module _ (f g : Seen → Served) (later : Seen → Effect) (w : Seen) (act : Act) where
   -- refused before its act, or asked
@@ -12,7 +11,7 @@ module _ (f g : Seen → Served) (later : Seen → Effect) (w : Seen) (act : Act
   by_question ask z a h = h w (later w) ∙ sym (ap (λ (x : Served). x.act) (z ∙ a.asked))
 
   -- one that nothing refuses
-  pub always-asks : f w ≡ g w → Asked g later w (Asks act) → act_of act ≡ (f w).act
+  pub always-asks : f w ≡ g w → Asked g later w (Ok act) → act_of act ≡ (f w).act
   always-asks z a = sym (ap (λ (x : Served). x.act) (z ∙ a.asked))
 
 -- refused before any service is asked

@@ -42,8 +42,7 @@ use Rattle.dispatch.specs.Rules as Rules
 use Rattle.dispatch.specs.Seen.{seen_of}
 use Rattle.entry.specs.Address.{addressed_of}
 use Rattle.entry.specs.Gate.{barring}
-use Rattle.entry.specs.declared.Address.{Address}
-use Rattle.entry.specs.declared.Address.TheVariants.{By, Foreign}
+use Rattle.std.specs.Prelude.{Option as Maybe, Some, None}
 use Rattle.entry.proofs.Gate.{barred_so, let_through}
 use Rattle.calls.specs.Request.{request_of, answer_of, Hears, wanted_by}
 use Rattle.calls.specs.declared.request.Answered.{Answered}
@@ -108,11 +107,11 @@ module _ (w : List ℕ) (s : State) (k subs heads room : List ℕ) (t src dst : 
     unfolding Definition.request
     routes m e = rw (v, le-leb t max_time h, e)
 
-    pub to_none : (x : Address) → addressed_of x ≡ Definition.addressed (config_of w) dst → x ≡ Foreign → plain (Model.step 0 before) ≡ Definition.request max_frame before asked
+    pub to_none : (x : Maybe Bool) → addressed_of x ≡ Definition.addressed (config_of w) dst → x ≡ None → plain (Model.step 0 before) ≡ Definition.request max_frame before asked
     unfolding Definition.routed
     to_none x a e = routes none (rw e at a)
 
-    pub foreign : (x : Address) → addressed_of x ≡ Definition.addressed (config_of w) dst → x ≡ Foreign → Gives s 0
+    pub foreign : (x : Maybe Bool) → addressed_of x ≡ Definition.addressed (config_of w) dst → x ≡ None → Gives s 0
     foreign x a e = told s 0 (to_none x a e)
 
     -- what 27 and 2A ask of the numbers
@@ -122,7 +121,7 @@ module _ (w : List ℕ) (s : State) (k subs heads room : List ℕ) (t src dst : 
     few : (leb (length (table_of s.subscriptions subs)) max_periodic && leb t max_time) ≡ true
     few = let p = valid_parts max_frame before v in rw (le-leb (length (table_of s.subscriptions subs)) max_periodic (within-length max_periodic subscription_valid (table_of s.subscriptions subs) p.periodic), le-leb t max_time h)
 
-    module _ (x : Address) (a : addressed_of x ≡ Definition.addressed (config_of w) dst) (fn : Bool) (to : x ≡ By fn) where
+    module _ (x : Maybe Bool) (a : addressed_of x ≡ Definition.addressed (config_of w) dst) (fn : Bool) (to : x ≡ Some fn) where
       abbrev got : Model.State
       got = received before (mode_of fn) t
 

@@ -1,6 +1,6 @@
 -- One law for each way out of complete and fail.
 use Prim.Native.Nat.{ℕ}
-use mathlib.Core.Path.{◌≡◌, refl, ap, sym, ◌∙◌}
+use mathlib.Core.Path.{◌≡◌, refl, ap, ap₂, sym, ◌∙◌}
 use mathlib.Core.Bool.{Bool, true, false}
 use mathlib.Core.List.{List, []}
 use mathlib.Core.Option.{Option, some, none}
@@ -15,12 +15,10 @@ use Rattle.model.specs.State.{AddressMode, PendingRequest, with_pending}
 use Rattle.model.specs.Queue as Queue
 use Rattle.model.specs.Queue.{answered}
 use Rattle.model.specs.Reply.{taken, queued, confirmed}
-use Rattle.model.specs.Service22.{Reading, going, ended, appended, read_reply}
+use Rattle.model.specs.Service22.{Reading, appended, read_reply}
 use Rattle.model.specs.Pending.{complete, completed, fail, failed}
-use Rattle.queue.specs.View.{queue_of, mode_of}
-use Rattle.queue.specs.View as View
+use Rattle.queue.specs.View.{Unseen, queue_of, mode_of}
 use Rattle.queue.proofs.Replied.{made}
-use Rattle.queue.specs.declared.reply.Pushed.{Pushed}
 use Rattle.state.specs.View.{state_of, step_of}
 use Rattle.state.specs.declared.State.{State}
 use Rattle.entry.specs.Gate.{barring}
@@ -76,13 +74,11 @@ confirms : (mode : AddressMode) (q : List Frame) (to sid : ℕ) (payload : List 
 unfolding answered
 confirms mode q to sid payload o e = ap (λ (x : Reading). answered max_frame mode q to sid (read_reply x)) e ∙ made max_frame mode q to sid [] payload
 
-pub confirmed-long : (mode : AddressMode) (q : List Frame) (to sid : ℕ) (payload : List ℕ) → ended (Queue.negative 0x14) ≡ appended max_frame [] payload → Queue.refused mode q to sid 0x14 ≡ Queue.confirmed max_frame mode q to sid payload
-unfolding answered
-confirmed-long mode q to sid payload e = confirms mode q to sid payload (ended (Queue.negative 0x14)) e
-
-pub confirmed_made : (mode : AddressMode) (q : List Frame) (to sid : ℕ) (payload made : List ℕ) → going made ≡ appended max_frame [] payload → Queue.confirmed max_frame mode q to sid made ≡ Queue.confirmed max_frame mode q to sid payload
-unfolding answered
-confirmed_made mode q to sid payload made e = confirms mode q to sid payload (going made) e
+pub confirmed_so : (mode : AddressMode) (count : ℕ) (heads before after : List ℕ) (to sid : ℕ) (payload : List ℕ) (o : Reading) (reply : Queue.Reply) (q : Queue.QueueStep)
+    → Unseen count before after → o ≡ appended max_frame [] payload → reply ≡ read_reply o → q ≡ answered max_frame mode (queue_of count heads after) to sid reply
+    → q ≡ Queue.confirmed max_frame mode (queue_of count heads before) to sid payload
+confirmed_so mode count heads before after to sid payload o reply q u d z e =
+    e ∙ ap₂ (λ (l : List Frame) (r : Queue.Reply). answered max_frame mode l to sid r) (u heads) z ∙ confirms mode (queue_of count heads before) to sid payload o d
 
 module _ (w : List ℕ) (s : State) (k subs heads room : List ℕ) (t : ℕ) (found : Bool) (n : ℕ) (v : found ≡ Model.valid max_frame (state_of w s k subs heads room)) (g : n ≡ ending found s.pending.on t) where
   abbrev before : Model.State
@@ -100,12 +96,12 @@ module _ (w : List ℕ) (s : State) (k subs heads room : List ℕ) (t : ℕ) (fo
     unfolding complete completed
     complete-barred z = ended-barred (Model.valid max_frame before) s.pending.on t n (λ m. Model.step m before) (completed max_frame before payload) waiting asked z refl
 
-    pub completes : n ≡ 0 → (p : Pushed) (r : State) (heads' room' : List ℕ)
-        → View.step_of p heads' room' ≡ Queue.confirmed max_frame (mode_of s.functional) (queue_of s.frames heads room) s.pending.dst s.pending.sid payload → Ends s p.count r
-        → step_of w (record { state = r; result = p.result }) k subs heads' room' ≡ complete max_frame before t payload
+    pub completes : n ≡ 0 → (x m c' : ℕ) (r : State) (heads' room' : List ℕ) → x ≡ m
+        → record { result = m; queue = queue_of c' heads' room' } ≡ Queue.confirmed max_frame (mode_of s.functional) (queue_of s.frames heads room) s.pending.dst s.pending.sid payload → Ends s c' r
+        → step_of w (record { state = r; result = x }) k subs heads' room' ≡ complete max_frame before t payload
     unfolding complete completed confirmed
-    completes z p r heads' room' q d =
-        ap (Model.step p.result) (d.state w k subs heads room heads' room')
+    completes z x m c' r heads' room' told q d =
+        ap₂ Model.step told (d.state w k subs heads room heads' room')
         ∙ ap (taken (with_pending before none)) q
         ∙ ended_through (Model.valid max_frame before) s.pending.on t n (λ m. Model.step m before) (completed max_frame before payload) waiting asked z
 
@@ -114,11 +110,11 @@ module _ (w : List ℕ) (s : State) (k subs heads room : List ℕ) (t : ℕ) (fo
     unfolding fail failed
     fail-barred z = ended-barred (Model.valid max_frame before) s.pending.on t n (λ m. Model.step m before) (failed before code) waiting asked z refl
 
-    pub fails : n ≡ 0 → (p : Pushed) (r : State) (heads' room' : List ℕ)
-        → View.step_of p heads' room' ≡ Queue.refused (mode_of false) (queue_of s.frames heads room) s.pending.dst s.pending.sid code → Ends s p.count r
-        → step_of w (record { state = r; result = p.result }) k subs heads' room' ≡ fail max_frame before t code
-    unfolding fail failed queued Queue.refused Queue.withheld
-    fails z p r heads' room' q d =
-        ap (Model.step p.result) (d.state w k subs heads room heads' room')
+    pub fails : n ≡ 0 → (x m c' : ℕ) (r : State) (heads' room' : List ℕ) → x ≡ m
+        → record { result = m; queue = queue_of c' heads' room' } ≡ answered max_frame (mode_of false) (queue_of s.frames heads room) s.pending.dst s.pending.sid (Queue.negative code) → Ends s c' r
+        → step_of w (record { state = r; result = x }) k subs heads' room' ≡ fail max_frame before t code
+    unfolding fail failed queued answered Queue.refused Queue.withheld
+    fails z x m c' r heads' room' told q d =
+        ap₂ Model.step told (d.state w k subs heads room heads' room')
         ∙ ap (taken (with_pending before none)) q
         ∙ ended_through (Model.valid max_frame before) s.pending.on t n (λ m. Model.step m before) (failed before code) waiting asked z

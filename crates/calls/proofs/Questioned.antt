@@ -30,8 +30,7 @@ use Rattle.entry.specs.Gate.{barring}
 use Rattle.entry.specs.Address.{addressed_of}
 use Rattle.calls.specs.Request.{wanted_by}
 use Rattle.calls.specs.View.{inbound_of, asked_of}
-use Rattle.entry.specs.declared.Address.{Address}
-use Rattle.entry.specs.declared.Address.TheVariants.{By, Foreign}
+use Rattle.std.specs.Prelude.{Option as Maybe, Some, None}
 use Rattle.calls.specs.declared.question.Asked.{Asked}
 use Rattle.entry.proofs.Gate.{barred_so}
 use Rattle.calls.proofs.Asked.{to_none, refused_2, answers_so}
@@ -69,11 +68,11 @@ module _ (w : List ℕ) (s : State) (k subs heads room : List ℕ) (t src dst : 
   unfolding Definition.request
   asked-barred n e z = by_request n (plain (Model.step n before)) (barred-told before t n e z) (barred_so (Model.valid max_frame before) t (λ m. plain (Model.step m before)) _ n e z)
 
-  module _ (n : ℕ) (g : n ≡ barring (Model.valid max_frame before) t) (z : n ≡ 0) (x : Address) (a : addressed_of x ≡ Definition.addressed (config_of w) dst) where
-    pub asked_foreign : x ≡ Foreign → Says 0 no_act
+  module _ (n : ℕ) (g : n ≡ barring (Model.valid max_frame before) t) (z : n ≡ 0) (x : Maybe Bool) (a : addressed_of x ≡ Definition.addressed (config_of w) dst) where
+    pub asked_foreign : x ≡ None → Says 0 no_act
     asked_foreign e = by_request 0 (plain (Model.step 0 before)) refl (to_none w s k subs heads room t src dst frame 0 [] [] [] n g z x a e)
 
-    module _ (fn : Bool) (to : x ≡ By fn) (b : Bool) (m : b ≡ pick s.pending.on false (not (length_fits frame))) where
+    module _ (fn : Bool) (to : x ≡ Some fn) (b : Bool) (m : b ≡ pick s.pending.on false (not (length_fits frame))) where
       pub asked_misfit : b ≡ true → Says 2 no_act
       asked_misfit e = by_request 2 (plain (Model.step 2 (Model.received before (mode_of fn) t))) refl (refused_2 w s k subs heads room t src dst frame 0 [] [] [] n g z x a fn to b m e)
 

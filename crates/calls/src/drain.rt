@@ -11,9 +11,9 @@ use queue::{Heads, Room};
 use security::Security;
 use state::State;
 use state::valid::is_valid;
-use uds::result::STATE_NOT_VALID;
+use uds::result::Refusal;
 
-// The state that is left, the result, and how many frames were written.
+// The state that is left, the result, and how many frames were written. It goes to C, so it holds a number.
 #[repr(C)]
 #[derive(Clone, Copy)]
 pub struct Drained {
@@ -37,15 +37,16 @@ pub fn drain<'a>(
     if !is_valid(config, s, k, subs, heads, room) {
         return Drained {
             state: s,
-            result: STATE_NOT_VALID,
+            result: Refusal::StateNotValid as u8,
             frames: 0,
         };
     }
     let d = queue::drain::drain(s.frames, heads, room, out);
-    let mut next = s;
-    next.frames = d.count;
     Drained {
-        state: next,
+        state: State {
+            frames: d.count,
+            ..s
+        },
         result: d.result,
         frames: d.frames,
     }

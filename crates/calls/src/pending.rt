@@ -3,81 +3,68 @@ ghost use Rattle.std.specs.Prelude.{◌≡◌};
 ghost use Rattle.model.specs.Numbers.{max_frame};
 ghost use Rattle.model.specs.Pending as Model;
 ghost use Rattle.model.specs.Queue as Queue;
-ghost use Rattle.queue.specs.View as View;
-ghost use Rattle.queue.specs.View.{queue_of, mode_of};
+ghost use Rattle.uds.specs.Result.{result_of};
+ghost use Rattle.queue.specs.View.{queue_of, mode_of, reply_of};
 ghost use Rattle.state.specs.View.{state_of, step_of};
 ghost use Rattle.calls.specs.Pending.{ending, Ends};
 
 use config::Config;
 use periodic::Subscriptions;
-use queue::draft::Drafted;
-use queue::reply::Pushed;
+use queue::reply::{Asker, Outbox, Reply};
 use queue::{Heads, Room};
 use security::Security;
-use state::State;
 use state::apply::Answer;
 use state::valid::is_valid;
+use state::{PendingRequest, State};
 use uds::clock::Instant;
-use uds::nrc::Nrc;
-use uds::result::{DONE, NOT_PENDING};
+use uds::result::{Refusal, number};
 
 // No code is withheld after a request that was not functional, and so is none of a failure.
 const PHYSICAL: bool = false;
 
-// What both ask first: 10, then 6, then 1 where no request is pending; else 0.
-fn barred(valid: bool, on: bool, t: Instant) -> u8
-    ensures { result ≡ ending valid on t.0 }
+// What both ask first: 10, then 6, then 1 where no request is pending.
+fn barred(valid: bool, on: bool, t: Instant) -> Result<(), Refusal>
+    ensures { result_of result ≡ ending valid on t.0 }
 {
-    let n = entry::barred(valid, t);
-    if n != DONE {
-        return n;
-    }
-    if on {
-        return DONE;
-    }
-    NOT_PENDING
+    entry::barred(valid, t)?;
+    if on { Ok(()) } else { Err(Refusal::NotPending) }
 }
 
 // Nothing is pending any more, and so many frames wait.
 fn ended(s: State, frames: u8) -> State
     ensures { Ends s frames result }
 {
-    let session = s.session;
-    let mut pending = s.pending;
-    pending.on = false;
     State {
-        session,
-        pending,
-        functional: s.functional,
-        subscriptions: s.subscriptions,
+        pending: PendingRequest {
+            on: false,
+            ..s.pending
+        },
         frames,
+        ..s
     }
 }
 
-// A payload as a positive frame, made where it will wait; 0x14 where that exceeds a frame.
-fn confirmed(
-    frames: u8,
-    heads: &mut Heads,
-    room: &mut Room,
-    functional: bool,
-    to: u32,
-    sid: u8,
-    payload: &[u8],
-) -> Pushed
-    ensures { View.step_of result heads.new room.new ≡ Queue.confirmed max_frame (mode_of functional) (queue_of frames heads.old room.old) to sid payload.now }
+// What an outbox answered, and how many frames wait in it then.
+#[derive(Clone, Copy)]
+struct Queued {
+    done: Result<(), Refusal>,
+    count: u8,
+}
+
+// What is said to the one who waits, queued.
+fn answered(frames: u8, heads: &mut Heads, room: &mut Room, asker: Asker, reply: Reply) -> Queued
+    ensures { record { result = result_of result.done; queue = queue_of result.count heads.new room.new } ≡ Queue.answered max_frame (mode_of asker.functional) (queue_of frames heads.old room.old) asker.to asker.sid (reply_of reply frames room.old) }
 {
-    let Drafted::Going(len) = queue::draft::extend(room, frames, 0, payload) else {
-        return queue::reply::refuse(
-            frames,
-            heads,
-            room,
-            functional,
-            to,
-            sid,
-            Nrc::RESPONSE_TOO_LONG,
-        );
+    let mut outbox = Outbox {
+        count: frames,
+        heads,
+        room,
     };
-    queue::reply::confirm(frames, heads, room, functional, to, sid, len)
+    let done = outbox.answer(asker, reply);
+    Queued {
+        done,
+        count: outbox.count,
+    }
 }
 
 // The answer that the pending request waited for.
@@ -95,25 +82,23 @@ pub fn complete(
 {
     let pending = s.pending;
     let valid = is_valid(config, s, k, subs, heads, room);
-    let n = barred(valid, pending.on, t);
-    if n != DONE {
+    if let Err(why) = barred(valid, pending.on, t) {
         return Answer {
             state: s,
-            result: n,
+            result: u8::from(why),
         };
     }
-    let p = confirmed(
-        s.frames,
-        heads,
-        room,
-        s.functional,
-        pending.dst,
-        pending.sid,
-        payload,
-    );
+    let asker = Asker {
+        functional: s.functional,
+        to: pending.dst,
+        sid: pending.sid,
+    };
+    let made = queue::draft::extend(room, s.frames, 0, payload);
+    let reply = queue::draft::said(made);
+    let p = answered(s.frames, heads, room, asker, reply);
     Answer {
         state: ended(s, p.count),
-        result: p.result,
+        result: number(p.done),
     }
 }
 
@@ -132,24 +117,20 @@ pub fn fail(
 {
     let pending = s.pending;
     let valid = is_valid(config, s, k, subs, heads, room);
-    let n = barred(valid, pending.on, t);
-    if n != DONE {
+    if let Err(why) = barred(valid, pending.on, t) {
         return Answer {
             state: s,
-            result: n,
+            result: u8::from(why),
         };
     }
-    let p = queue::reply::refuse(
-        s.frames,
-        heads,
-        room,
-        PHYSICAL,
-        pending.dst,
-        pending.sid,
-        code,
-    );
+    let asker = Asker {
+        functional: PHYSICAL,
+        to: pending.dst,
+        sid: pending.sid,
+    };
+    let p = answered(s.frames, heads, room, asker, Reply::Negative(code));
     Answer {
         state: ended(s, p.count),
-        result: p.result,
+        result: number(p.done),
     }
 }

@@ -7,17 +7,17 @@ ghost use Rattle.state.specs.View.{state_of};
 ghost use Rattle.calls.specs.View.{inbound_of, asked_of};
 
 use config::Config;
-use entry::Address;
 use periodic::Subscriptions;
 use queue::{Heads, Room};
 use security::Security;
-use service::Act;
+use service::{Act, Request};
 use state::State;
 use state::valid::is_valid;
 use uds::clock::Instant;
-use uds::result::{DONE, FRAME_LENGTH};
+use uds::result::{DONE, Refusal};
 
-// The act, none where the request would ask none, and 10, 6 or 2 where the request would be refused by it; else 0, whatever its reply would meet.
+// The act, none where the request would ask none, and 10, 6 or 2 where the request would be refused by it; else 0, whatever its reply would meet. It goes to C, so it
+// holds a number.
 #[repr(C)]
 #[derive(Clone, Copy)]
 pub struct Asked {
@@ -49,32 +49,36 @@ pub fn question<'a>(
     ensures { asked_of result ≡ Model.question max_frame (state_of config.now s k.now subs.now heads.now room.now) (inbound_of t.0 src dst frame.now) }
 {
     let valid = is_valid(config, s, k, subs, heads, room);
-    let n = entry::barred(valid, t);
-    if n != DONE {
-        return nothing(n);
+    if let Err(why) = entry::barred(valid, t) {
+        return nothing(u8::from(why));
     }
-    let Address::By(_) = entry::addressed(config, dst) else {
+    let Some(_) = entry::addressed(config, dst) else {
         return nothing(DONE);
     };
-    let pending = s.pending;
-    let on = pending.on;
+    let on = s.pending.on;
     if entry::misfits(on, frame) {
-        return nothing(FRAME_LENGTH);
+        return nothing(Refusal::FrameLength as u8);
     }
     if on {
         return nothing(DONE);
     }
-    let session = s.session;
+    // No question looks at what is handed in for an act, nor at the value table.
+    let request = Request {
+        config,
+        session: s.session.session_type,
+        level: s.session.level,
+        subscriptions: s.subscriptions,
+        frames: s.frames,
+        src,
+        t,
+        payload: uds::frame::payload(frame),
+        err: 0,
+        given: &[],
+        values: &[],
+        pool: &[],
+    };
     Asked {
-        act: asking::asked(
-            config,
-            session.session_type,
-            session.level,
-            uds::frame::sid(frame),
-            t,
-            uds::frame::payload(frame),
-            k,
-        ),
+        act: asking::asked(uds::frame::sid(frame), &request, k),
         result: DONE,
     }
 }

@@ -2,30 +2,28 @@
 ghost use Rattle.std.specs.Prelude.{◌≡◌};
 ghost use Rattle.model.specs.Tests.{pick};
 ghost use Rattle.model.specs.Numbers.{max_frame};
-ghost use Rattle.model.specs.Frame.{payload_of};
 ghost use Rattle.model.specs.Request as Model;
 ghost use Rattle.state.specs.View.{state_of};
 ghost use Rattle.model.specs.Service.{no_act};
 ghost use Rattle.service.specs.Act.{act_of};
 ghost use Rattle.service.specs.Seen.{Serves};
-ghost use Rattle.dispatch.specs.Seen.{seen_of};
+ghost use Rattle.dispatch.specs.Seen.{seen_in};
 ghost use Rattle.calls.specs.Request.{wanted_by, Hears, request_of, answer_of};
 
 use config::Config;
-use entry::Address;
 use periodic::Subscriptions;
-use queue::reply::Reply;
+use queue::reply::{Asker, Reply};
 use queue::{Heads, Room};
 use security::Security;
-use service::{Act, Wanted, says};
+use service::{Act, Request, Wanted};
 use state::apply::apply;
 use state::valid::is_valid;
 use state::{SessionState, State};
 use uds::clock::Instant;
 use uds::nrc::Nrc;
-use uds::result::{DONE, FRAME_LENGTH};
+use uds::result::{DONE, Refusal};
 
-// The state that is left, the result, and the act that was asked.
+// The state that is left, the result, and the act that was asked. It goes to C, so it holds a number.
 #[repr(C)]
 #[derive(Clone, Copy)]
 pub struct Answered {
@@ -38,28 +36,20 @@ pub struct Answered {
 fn reply_to(on: bool, src: u32, dst: u32) -> u32
     ensures { result ≡ pick on dst src }
 {
-    if on {
-        return dst;
-    }
-    src
+    if on { dst } else { src }
 }
 
 // A request was received, and no more.
 fn heard(s: State, t: Instant, functional: bool) -> State
     ensures { Hears s t.0 functional result }
 {
-    let session = s.session;
-    let pending = s.pending;
     State {
         session: SessionState {
             last_rx: t,
-            session_type: session.session_type,
-            level: session.level,
+            ..s.session
         },
-        pending,
         functional,
-        subscriptions: s.subscriptions,
-        frames: s.frames,
+        ..s
     }
 }
 
@@ -76,51 +66,22 @@ fn unasked(state: State, res: u8) -> Answered
 
 // Busy where a request is pending, said as a service would say it; else what the service wants.
 fn wanted(
-    config: &Config,
     on: bool,
-    session: u8,
-    level: u8,
-    subscriptions: u8,
-    frames: u8,
     sid: u8,
-    src: u32,
-    t: Instant,
-    frame: &[u8],
-    err: u8,
-    given: &[u8],
-    values: &[u32],
-    pool: &[u8],
+    request: &Request,
     k: &mut Security,
     subs: &mut Subscriptions,
     room: &mut Room,
 ) -> Wanted
-    ensures { Serves (wanted_by on sid) (seen_of config.now session level subscriptions src t.0 (payload_of frame.now) err given.now values.now pool.now k.old subs.old) k.old subs.old frames room.old result k.new subs.new room.new }
+    ensures { Serves (wanted_by on sid) (seen_in request.now k.old subs.old) k.old subs.old request.now.frames room.old result k.new subs.new room.new }
 {
     if on {
-        let reply = Reply::Always(Nrc::BUSY_REPEAT_REQUEST);
         return Wanted {
-            effect: says(session, level, subscriptions, reply),
+            effect: request.says(Reply::Always(Nrc::BUSY_REPEAT_REQUEST)),
             act: Act::none(),
         };
     }
-    dispatch::guarded(
-        config,
-        session,
-        level,
-        subscriptions,
-        frames,
-        sid,
-        src,
-        t,
-        uds::frame::payload(frame),
-        err,
-        given,
-        values,
-        pool,
-        k,
-        subs,
-        room,
-    )
+    dispatch::guarded(sid, request, k, subs, room)
 }
 
 pub fn request(
@@ -142,57 +103,41 @@ pub fn request(
     ensures { answer_of config.now result k.new subs.new heads.new room.new ≡ Model.request max_frame (state_of config.now s k.old subs.old heads.old room.old) (request_of t.0 src dst frame.now err given.now values.now pool.now) }
 {
     let valid = is_valid(config, s, k, subs, heads, room);
-    let n = entry::barred(valid, t);
-    if n != DONE {
-        return unasked(s, n);
+    if let Err(why) = entry::barred(valid, t) {
+        return unasked(s, u8::from(why));
     }
-    let Address::By(functional) = entry::addressed(config, dst) else {
+    let Some(functional) = entry::addressed(config, dst) else {
         return unasked(s, DONE);
     };
-    let pending = s.pending;
-    let on = pending.on;
+    let on = s.pending.on;
     if entry::misfits(on, frame) {
-        return unasked(heard(s, t, functional), FRAME_LENGTH);
+        return unasked(heard(s, t, functional), Refusal::FrameLength as u8);
     }
-    let session = s.session;
     let sid = uds::frame::sid(frame);
-    let w = wanted(
+    let request = Request {
         config,
-        on,
-        session.session_type,
-        session.level,
-        s.subscriptions,
-        s.frames,
-        sid,
+        session: s.session.session_type,
+        level: s.session.level,
+        subscriptions: s.subscriptions,
+        frames: s.frames,
         src,
         t,
-        frame,
+        payload: uds::frame::payload(frame),
         err,
         given,
         values,
         pool,
-        k,
-        subs,
-        room,
-    );
-    let effect = w.effect;
-    let act = w.act;
-    let a = apply(
-        config,
-        s,
-        k,
-        heads,
-        room,
-        reply_to(on, src, dst),
-        sid,
-        t,
+    };
+    let w = wanted(on, sid, &request, k, subs, room);
+    let asker = Asker {
         functional,
-        effect,
-    );
-    let state = a.state;
+        to: reply_to(on, src, dst),
+        sid,
+    };
+    let a = apply(config, s, k, heads, room, asker, t, w.effect);
     Answered {
-        state,
+        state: a.state,
         result: a.result,
-        act,
+        act: w.act,
     }
 }

@@ -8,7 +8,7 @@ use lib.Dec.{eqb}
 use borrow.Author.Tests.{eq-eqb}
 use Rattle.model.specs.Tests.{pick, first}
 use Rattle.model.specs.Config.{SessionConfig, ServiceConfig, DidConfig, SecurityLevelConfig, Config, within, is_session, is_service, is_did, is_level, find_session, find_service, find_did, find_level}
-use Rattle.uds.specs.declared.table.Found.{Found}
+use Rattle.std.specs.Prelude.{Option as Maybe}
 use Rattle.uds.specs.Table.{row_of, Finds}
 use Rattle.config.specs.View.{session_at, service_at, did_at, level_at, session_count, service_count, did_count, level_count, config_of}
 use Rattle.config.specs.Build.{overfull, settled, add_session, add_service, add_did, add_level}
@@ -43,7 +43,7 @@ told c = go (within c) refl
     go false e = sym e
 
 -- v is what a builder made of w and a row: the lookup of the row's key finds the first row of w that has the key, and else the row
-module _ (w v : List ℕ) (found : Found) where
+module _ (w v : List ℕ) (found : Maybe ℕ) where
   pub session : (r : SessionConfig) → config_of v ≡ settled (add_session (config_of w) r) → within (add_session (config_of w) r) ≡ true
       → Finds (is_session r.session_type) (session_at v) (session_count v) found → row_of (session_at v) found ≡ or_else (find_session (config_of w) r.session_type) (some r)
   session r b k f =

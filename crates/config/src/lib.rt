@@ -1,10 +1,11 @@
 // The configuration: a lent image of words, and what is read from it. Only this crate knows where its words stand.
 #![tactic(auto)]
 
-ghost use Rattle.std.specs.Prelude.{◌≡◌, ◌+◌, ◌*◌};
+ghost use Rattle.std.specs.Prelude.{◌≡◌, ◌+◌, ◌*◌, get_or, nat_le};
 ghost use Rattle.model.specs.Tests.{memb};
+ghost use Rattle.model.specs.Numbers.{max_seed};
 ghost use Rattle.model.specs.Config as Model;
-ghost use Rattle.uds.specs.Table.{column, row_of, Finds};
+ghost use Rattle.uds.specs.Table.{column, key_place, place_of, row_of, Finds};
 ghost use Rattle.config.specs.View.{capped, list_at, session_at, service_at, did_at, level_at, session_count, service_count, did_count, level_count, config_of, allowed, seed_length_of, key_length_of};
 
 pub mod build;
@@ -14,7 +15,7 @@ use uds::nrc::{
     DEFAULT_LOCKOUT, DEFAULT_MAX_SECURITY_ATTEMPTS, DEFAULT_P2, DEFAULT_P2_EXT, DEFAULT_S3,
 };
 use uds::rows::{MAX_LISTED, MAX_SEED};
-use uds::table::{Found, cell, find, word};
+use uds::table::{Column, word};
 
 // How many rows of each kind there may be.
 pub const MAX_SESSIONS: usize = 8;
@@ -25,60 +26,120 @@ pub const MAX_DIDS: usize = 128;
 
 pub const MAX_SECURITY_LEVELS: usize = 8;
 
-// The image: two addresses, four counts, then the rows. A session list is a count and eight entries.
+// The image: two addresses, four counts, then the rows. A session list is a count and eight entries. It is words because C lends it.
 pub type Config = [u32; 3006];
 
 const PHYSICAL: usize = 0;
 
 const FUNCTIONAL: usize = 1;
 
-const SESSIONS: usize = 2;
+// One of the four tables: where its count stands, how many rows it may have, and where the key of each row stands, which is its first word.
+#[derive(Clone, Copy)]
+struct Table {
+    counter: usize,
+    most: usize,
+    key: Column,
+}
 
-const SERVICES: usize = 3;
+const SESSIONS: Table = Table {
+    counter: 2,
+    most: MAX_SESSIONS,
+    key: Column { from: 6, step: 4 },
+};
 
-const DIDS: usize = 4;
+const P2: Column = Column { from: 7, step: 4 };
 
-const LEVELS: usize = 5;
+const P2_EXT: Column = Column { from: 8, step: 4 };
 
-const SESSION_WORDS: usize = 4;
+const S3: Column = Column { from: 9, step: 4 };
 
-const SESSION_TYPE: usize = 6;
+const SERVICES: Table = Table {
+    counter: 3,
+    most: MAX_SERVICES,
+    key: Column { from: 38, step: 10 },
+};
 
-const P2: usize = 7;
+const SUPPORTED_IN: Column = Column { from: 39, step: 10 };
 
-const P2_EXT: usize = 8;
+const DIDS: Table = Table {
+    counter: 4,
+    most: MAX_DIDS,
+    key: Column {
+        from: 278,
+        step: 21,
+    },
+};
 
-const S3: usize = 9;
+const DID_LEVEL: Column = Column {
+    from: 279,
+    step: 21,
+};
 
-const SERVICE_WORDS: usize = 10;
+const MIN_INTERVAL: Column = Column {
+    from: 280,
+    step: 21,
+};
 
-const SERVICE_ID: usize = 38;
+const READABLE_IN: Column = Column {
+    from: 281,
+    step: 21,
+};
 
-const SUPPORTED_IN: usize = 39;
+const WRITABLE_IN: Column = Column {
+    from: 290,
+    step: 21,
+};
 
-const DID_WORDS: usize = 21;
+const LEVELS: Table = Table {
+    counter: 5,
+    most: MAX_SECURITY_LEVELS,
+    key: Column {
+        from: 2966,
+        step: 5,
+    },
+};
 
-const IDENTIFIER: usize = 278;
+const MAX_ATTEMPTS: Column = Column {
+    from: 2967,
+    step: 5,
+};
 
-const DID_LEVEL: usize = 279;
+const LOCKOUT: Column = Column {
+    from: 2968,
+    step: 5,
+};
 
-const MIN_INTERVAL: usize = 280;
+const SEED_LENGTH: Column = Column {
+    from: 2969,
+    step: 5,
+};
 
-const READABLE_IN: usize = 281;
+const KEY_LENGTH: Column = Column {
+    from: 2970,
+    step: 5,
+};
 
-const WRITABLE_IN: usize = 290;
+impl Table {
+    fn count(self, config: &[u32]) -> usize
+        ensures { result ≡ get_or config.now self.counter 0 }
+    {
+        word(config, self.counter) as usize
+    }
 
-const LEVEL_WORDS: usize = 5;
+    // It has no more rows than it may have.
+    fn within(self, words: &[u32]) -> bool
+        ensures { result ≡ nat_le (get_or words.now self.counter 0) self.most }
+    {
+        self.count(words) <= self.most
+    }
 
-const LEVEL: usize = 2966;
-
-const MAX_ATTEMPTS: usize = 2967;
-
-const LOCKOUT: usize = 2968;
-
-const SEED_LENGTH: usize = 2969;
-
-const KEY_LENGTH: usize = 2970;
+    // The first row that has the key.
+    fn find(self, config: &[u32], key: u32) -> Option<usize>
+        ensures { place_of result ≡ key_place config.now self.key.from self.key.step (get_or config.now self.counter 0) key }
+    {
+        self.key.find(config, self.count(config), key)
+    }
+}
 
 pub fn physical(config: &Config) -> u32
     ensures { result ≡ (config_of config.now).physical }
@@ -95,209 +156,155 @@ pub fn functional(config: &Config) -> u32
 pub fn session_count(config: &Config) -> usize
     ensures { result ≡ session_count config.now }
 {
-    word(config, SESSIONS) as usize
+    SESSIONS.count(config)
 }
 
 pub fn service_count(config: &Config) -> usize
     ensures { result ≡ service_count config.now }
 {
-    word(config, SERVICES) as usize
+    SERVICES.count(config)
 }
 
 pub fn did_count(config: &Config) -> usize
     ensures { result ≡ did_count config.now }
 {
-    word(config, DIDS) as usize
+    DIDS.count(config)
 }
 
 pub fn security_level_count(config: &Config) -> usize
     ensures { result ≡ level_count config.now }
 {
-    word(config, LEVELS) as usize
+    LEVELS.count(config)
 }
 
-pub fn find_session(config: &Config, session_type: u8) -> Found
+pub fn find_session(config: &Config, session_type: u8) -> Option<usize>
     ensures { Finds (Model.is_session session_type) (session_at config.now) (session_count config.now) result }
 {
-    find(
-        config,
-        SESSION_TYPE,
-        SESSION_WORDS,
-        word(config, SESSIONS) as usize,
-        session_type as u32,
-    )
+    SESSIONS.find(config, session_type as u32)
 }
 
-pub fn find_service(config: &Config, service_id: u8) -> Found
+pub fn find_service(config: &Config, service_id: u8) -> Option<usize>
     ensures { Finds (Model.is_service service_id) (service_at config.now) (service_count config.now) result }
 {
-    find(
-        config,
-        SERVICE_ID,
-        SERVICE_WORDS,
-        word(config, SERVICES) as usize,
-        service_id as u32,
-    )
+    SERVICES.find(config, service_id as u32)
 }
 
-pub fn find_did(config: &Config, identifier: u16) -> Found
+pub fn find_did(config: &Config, identifier: u16) -> Option<usize>
     ensures { Finds (Model.is_did identifier) (did_at config.now) (did_count config.now) result }
 {
-    find(
-        config,
-        IDENTIFIER,
-        DID_WORDS,
-        word(config, DIDS) as usize,
-        identifier as u32,
-    )
+    DIDS.find(config, identifier as u32)
 }
 
-pub fn find_security_level(config: &Config, level: u8) -> Found
+pub fn find_security_level(config: &Config, level: u8) -> Option<usize>
     ensures { Finds (Model.is_level level) (level_at config.now) (level_count config.now) result }
 {
-    find(
-        config,
-        LEVEL,
-        LEVEL_WORDS,
-        word(config, LEVELS) as usize,
-        level as u32,
-    )
+    LEVELS.find(config, level as u32)
 }
 
-// A word of row `i` of which no more than `most` counts.
-fn capped(words: &[u32], from: usize, step: usize, i: usize, most: u32) -> u32
-    ensures { result ≡ capped (column words.now from step i) most }
+// A span that a row says.
+fn span(config: &[u32], at: Column, i: usize) -> Duration
+    ensures { result.0 ≡ column config.now at.from at.step i }
 {
-    let x = cell(words, from, step, i);
-    if most < x {
-        return most;
-    }
-    x
+    Duration(u64::from(at.cell(config, i)))
+}
+
+// A length that a row says, of which no more than a seed's greatest counts.
+fn length(config: &[u32], at: Column, i: usize) -> usize
+    ensures { result ≡ capped (column config.now at.from at.step i) max_seed }
+{
+    at.cell(config, i).min(MAX_SEED) as usize
 }
 
 // What a row that was found says, or the default where none was.
-pub fn p2(config: &Config, session: Found) -> Duration
+pub fn p2(config: &Config, session: Option<usize>) -> Duration
     ensures { result.0 ≡ Model.p2_of (row_of (session_at config.now) session) }
 {
-    let Found::At(i) = session else {
-        return DEFAULT_P2;
-    };
-    Duration(cell(config, P2, SESSION_WORDS, i) as u64)
+    session.map_or(DEFAULT_P2, |i| span(config, P2, i))
 }
 
-pub fn p2_ext(config: &Config, session: Found) -> Duration
+pub fn p2_ext(config: &Config, session: Option<usize>) -> Duration
     ensures { result.0 ≡ Model.p2_ext_of (row_of (session_at config.now) session) }
 {
-    let Found::At(i) = session else {
-        return DEFAULT_P2_EXT;
-    };
-    Duration(cell(config, P2_EXT, SESSION_WORDS, i) as u64)
+    session.map_or(DEFAULT_P2_EXT, |i| span(config, P2_EXT, i))
 }
 
-pub fn s3(config: &Config, session: Found) -> Duration
+pub fn s3(config: &Config, session: Option<usize>) -> Duration
     ensures { result.0 ≡ Model.s3_of (row_of (session_at config.now) session) }
 {
-    let Found::At(i) = session else {
-        return DEFAULT_S3;
-    };
-    Duration(cell(config, S3, SESSION_WORDS, i) as u64)
+    session.map_or(DEFAULT_S3, |i| span(config, S3, i))
 }
 
 // The level that an identifier needs.
-pub fn did_level(config: &Config, did: Found) -> u32
+pub fn did_level(config: &Config, did: Option<usize>) -> u32
     ensures { result ≡ Model.level_of (row_of (did_at config.now) did) }
 {
-    let Found::At(i) = did else {
-        return 0;
-    };
-    cell(config, DID_LEVEL, DID_WORDS, i)
+    did.map_or(0, |i| DID_LEVEL.cell(config, i))
 }
 
-pub fn min_interval(config: &Config, did: Found) -> Duration
+pub fn min_interval(config: &Config, did: Option<usize>) -> Duration
     ensures { result.0 ≡ Model.min_interval_of (row_of (did_at config.now) did) }
 {
-    let Found::At(i) = did else {
-        return Duration::ZERO;
-    };
-    Duration(cell(config, MIN_INTERVAL, DID_WORDS, i) as u64)
+    did.map_or(Duration::ZERO, |i| span(config, MIN_INTERVAL, i))
 }
 
-pub fn max_attempts(config: &Config, level: Found) -> u32
+pub fn max_attempts(config: &Config, level: Option<usize>) -> u32
     ensures { result ≡ Model.max_attempts_of (row_of (level_at config.now) level) }
 {
-    let Found::At(i) = level else {
-        return DEFAULT_MAX_SECURITY_ATTEMPTS;
-    };
-    cell(config, MAX_ATTEMPTS, LEVEL_WORDS, i)
+    level.map_or(DEFAULT_MAX_SECURITY_ATTEMPTS, |i| {
+        MAX_ATTEMPTS.cell(config, i)
+    })
 }
 
-pub fn lockout(config: &Config, level: Found) -> Duration
+pub fn lockout(config: &Config, level: Option<usize>) -> Duration
     ensures { result.0 ≡ Model.lockout_of (row_of (level_at config.now) level) }
 {
-    let Found::At(i) = level else {
-        return DEFAULT_LOCKOUT;
-    };
-    Duration(cell(config, LOCKOUT, LEVEL_WORDS, i) as u64)
+    level.map_or(DEFAULT_LOCKOUT, |i| span(config, LOCKOUT, i))
 }
 
-pub fn seed_length(config: &Config, level: Found) -> usize
+pub fn seed_length(config: &Config, level: Option<usize>) -> usize
     ensures { result ≡ seed_length_of (row_of (level_at config.now) level) }
 {
-    let Found::At(i) = level else {
-        return 0;
-    };
-    capped(config, SEED_LENGTH, LEVEL_WORDS, i, MAX_SEED) as usize
+    level.map_or(0, |i| length(config, SEED_LENGTH, i))
 }
 
-pub fn key_length(config: &Config, level: Found) -> usize
+pub fn key_length(config: &Config, level: Option<usize>) -> usize
     ensures { result ≡ key_length_of (row_of (level_at config.now) level) }
 {
-    let Found::At(i) = level else {
-        return 0;
-    };
-    capped(config, KEY_LENGTH, LEVEL_WORDS, i, MAX_SEED) as usize
+    level.map_or(0, |i| length(config, KEY_LENGTH, i))
 }
 
-// A session stands in the list of row `i`, whose count stands at `from` in the first row.
-fn listed(words: &[u32], from: usize, step: usize, i: usize, session: u8) -> bool
-    ensures { result ≡ memb session (list_at words.now (from + i * step)) }
+// A session stands in the list of row `i`, whose count is the word of the column, and at most eight of its entries count.
+fn listed(words: &[u32], list: Column, i: usize, session: u8) -> bool
+    ensures { result ≡ memb session (list_at words.now (list.from + i * list.step)) }
 {
-    let n = capped(words, from, step, i, MAX_LISTED) as usize;
+    let n = list.cell(words, i).min(MAX_LISTED) as usize;
     if n == 0 {
         return false;
     }
-    let Found::At(_) = find(words, from + i * step + 1, 1, n, session as u32) else {
-        return false;
+    let entries = Column {
+        from: list.from + i * list.step + 1,
+        step: 1,
     };
-    true
+    entries.find(words, n, session as u32).is_some()
 }
 
 // A row that was found lists the session; where none was found nothing is allowed.
-pub fn allowed_in(config: &Config, service: Found, session: u8) -> bool
+pub fn allowed_in(config: &Config, service: Option<usize>, session: u8) -> bool
     ensures { result ≡ allowed session (row_of (service_at config.now) service) }
 {
-    let Found::At(i) = service else {
-        return false;
-    };
-    listed(config, SUPPORTED_IN, SERVICE_WORDS, i, session)
+    service.is_some_and(|i| listed(config, SUPPORTED_IN, i, session))
 }
 
-pub fn readable_in(config: &Config, did: Found, session: u8) -> bool
+pub fn readable_in(config: &Config, did: Option<usize>, session: u8) -> bool
     ensures { result ≡ Model.readable session (row_of (did_at config.now) did) }
 {
-    let Found::At(i) = did else {
-        return false;
-    };
-    listed(config, READABLE_IN, DID_WORDS, i, session)
+    did.is_some_and(|i| listed(config, READABLE_IN, i, session))
 }
 
-pub fn writable_in(config: &Config, did: Found, session: u8) -> bool
+pub fn writable_in(config: &Config, did: Option<usize>, session: u8) -> bool
     ensures { result ≡ Model.writable session (row_of (did_at config.now) did) }
 {
-    let Found::At(i) = did else {
-        return false;
-    };
-    listed(config, WRITABLE_IN, DID_WORDS, i, session)
+    did.is_some_and(|i| listed(config, WRITABLE_IN, i, session))
 }
 
 pub fn service_allowed(config: &Config, service_id: u8, session_type: u8) -> bool
@@ -322,16 +329,7 @@ pub fn did_writable(config: &Config, identifier: u16, session_type: u8) -> bool
 fn counts_within(words: &[u32]) -> bool
     ensures { result ≡ Model.within (config_of words.now) }
 {
-    if MAX_SESSIONS < word(words, SESSIONS) as usize {
-        return false;
-    }
-    if MAX_SERVICES < word(words, SERVICES) as usize {
-        return false;
-    }
-    if MAX_DIDS < word(words, DIDS) as usize {
-        return false;
-    }
-    word(words, LEVELS) as usize <= MAX_SECURITY_LEVELS
+    SESSIONS.within(words) && SERVICES.within(words) && DIDS.within(words) && LEVELS.within(words)
 }
 
 // The configuration keeps the numbers.

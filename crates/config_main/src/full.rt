@@ -17,50 +17,43 @@ fn low(x: u16) -> u8 {
 }
 
 fn sessions(mut c: Config) -> Config {
-    let mut i: u16 = 0;
-    while i < 8 {
+    for i in 0..8 {
         let next = build::with_session(
             c,
             SessionConfig {
                 session_type: low(key(i, 5)),
-                p2_timeout: Duration(i as u64),
+                p2_timeout: Duration(u64::from(i)),
                 p2_extended_timeout: Duration(0xFFFF_FFFF),
                 s3_timeout: Duration(0),
             },
         );
         c = next;
-        i += 1;
     }
     c
 }
 
 fn services(mut c: Config) -> Config {
-    let mut i: u16 = 0;
-    while i < 24 {
+    for i in 0..24 {
         let next = build::with_service(
             c,
             ServiceConfig::new(low(key(i, 20)), b"\x01\x02\x03\x04\x05\x06\x07\x08"),
         );
         c = next;
-        i += 1;
     }
     c
 }
 
 fn dids(mut c: Config) -> Config {
     let list = b"\x01\x02\x03\x04\x05\x06\x07\x08";
-    let mut i: u16 = 0;
-    while i < 128 {
+    for i in 0..128 {
         let next = build::with_did(c, DidConfig::read_write(key(i, 100), list, list));
         c = next;
-        i += 1;
     }
     c
 }
 
 fn levels(mut c: Config) -> Config {
-    let mut i: u16 = 0;
-    while i < 8 {
+    for i in 0..8 {
         let next = build::with_security_level(
             c,
             SecurityLevelConfig {
@@ -72,7 +65,6 @@ fn levels(mut c: Config) -> Config {
             },
         );
         c = next;
-        i += 1;
     }
     c
 }
@@ -111,7 +103,7 @@ fn last(rt: &HostRuntime, c: &Config) -> io::Result<()> {
     value(
         rt,
         b"attempts of level 7",
-        config::max_attempts(c, config::find_security_level(c, 7)) as u64,
+        u64::from(config::max_attempts(c, config::find_security_level(c, 7))),
     )?;
     flag(
         rt,

@@ -2,10 +2,16 @@
 use config::Config;
 use lines::Line;
 use std::io;
-use uds::table::{Found, examined};
+use uds::table::examined;
 
 // What was looked up, its key, the row, and the rows examined.
-fn line(rt: &HostRuntime, what: &[u8], key: u64, found: Found, rows: usize) -> io::Result<()> {
+fn line(
+    rt: &HostRuntime,
+    what: &[u8],
+    key: u64,
+    found: Option<usize>,
+    rows: usize,
+) -> io::Result<()> {
     row(Line::new().text(what).number(key).text(b":"), found)
         .text(b",")
         .number(examined(found, rows) as u64)
@@ -14,18 +20,18 @@ fn line(rt: &HostRuntime, what: &[u8], key: u64, found: Found, rows: usize) -> i
     Ok(())
 }
 
-fn row(line: Line, found: Found) -> Line {
-    let Found::At(i) = found else {
-        return line.text(b" -");
-    };
-    line.number(i as u64)
+fn row(line: Line, found: Option<usize>) -> Line {
+    match found {
+        Some(i) => line.number(i as u64),
+        None => line.text(b" -"),
+    }
 }
 
 pub(crate) fn session(rt: &HostRuntime, c: &Config, key: u8) -> io::Result<()> {
     line(
         rt,
         b"session",
-        key as u64,
+        u64::from(key),
         config::find_session(c, key),
         config::session_count(c),
     )?;
@@ -36,7 +42,7 @@ pub(crate) fn service(rt: &HostRuntime, c: &Config, key: u8) -> io::Result<()> {
     line(
         rt,
         b"service",
-        key as u64,
+        u64::from(key),
         config::find_service(c, key),
         config::service_count(c),
     )?;
@@ -47,7 +53,7 @@ pub(crate) fn did(rt: &HostRuntime, c: &Config, key: u16) -> io::Result<()> {
     line(
         rt,
         b"identifier",
-        key as u64,
+        u64::from(key),
         config::find_did(c, key),
         config::did_count(c),
     )?;
@@ -58,7 +64,7 @@ pub(crate) fn level(rt: &HostRuntime, c: &Config, key: u8) -> io::Result<()> {
     line(
         rt,
         b"level",
-        key as u64,
+        u64::from(key),
         config::find_security_level(c, key),
         config::security_level_count(c),
     )?;

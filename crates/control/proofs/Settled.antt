@@ -10,11 +10,11 @@ use Rattle.control.proofs.service31.service31.Reads as service31
 pub ask2F_settled : (κs : _) (a : _) → Settles (ask2F.Post κs a) (λ x e y f. asked_act x ≡ asked_act y)
 ask2F_settled κs a x e y f p q = same_asked (p blank) (q blank)
 
-pub service2F_settled : (κs : _) (a : _) → Settles (service2F.Post κs a) (λ x e y f. SameSpoken a.0 x y e.1.1.1.1.0.now f.1.1.1.1.0.now)
+pub service2F_settled : (κs : _) (a : _) → Settles (service2F.Post κs a) (λ x e y f. SameSpoken a.0.now.frames x y e.1.0.now f.1.0.now)
 service2F_settled κs a x e y f p q = same-spoken (p blank) (q blank)
 
 pub ask31_settled : (κs : _) (a : _) → Settles (ask31.Post κs a) (λ x e y f. asked_act x ≡ asked_act y)
 ask31_settled κs a x e y f p q = same_asked (p blank) (q blank)
 
-pub service31_settled : (κs : _) (a : _) → Settles (service31.Post κs a) (λ x e y f. SameSpoken a.0 x y e.1.1.1.1.0.now f.1.1.1.1.0.now)
+pub service31_settled : (κs : _) (a : _) → Settles (service31.Post κs a) (λ x e y f. SameSpoken a.0.now.frames x y e.1.0.now f.1.0.now)
 service31_settled κs a x e y f p q = same-spoken (p blank) (q blank)

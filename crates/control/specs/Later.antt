@@ -10,7 +10,7 @@ use Rattle.model.specs.Service2F.{controlled}
 abbrev pub later2F : Seen → Effect
 later2F v = acted v (controlled v) (outcome v.limit v.given)
 
--- the definition's `routine`, the identifier byte by byte: the same where the payload has them (`proofs/Laws`)
+-- the definition's `routine`, the identifier byte by byte: the same where the payload has them, as `ask31` promises
 abbrev pub echoed : Seen → List ℕ → Reply
 echoed v b = pick (suppressed v.payload) silent (positive (sub_function v.payload ∷ get_or v.payload 1 0 ∷ get_or v.payload 2 0 ∷ b))
 

@@ -7,42 +7,42 @@ ghost use Rattle.service.specs.Seen.{asking, handed, Speaks};
 ghost use Rattle.control.specs.Later.{later31};
 
 use queue::Room;
-use service::{Act, Ask, Part, Spoken};
+use service::{Act, Part, Request, Spoken};
 use uds::nrc::Nrc;
 
 // Before the act's outcome is known.
-pub fn ask31(payload: &[u8]) -> Ask
-    ensures { (v : Seen) → Asked Rules.service31 later31 (asking payload.now v) result }
+#[tactic(auto, unfolding(model::specs::Service31::service31))]
+pub fn ask31(request: &Request) -> Result<Act, u8>
+    ensures { (v : Seen) → Asked Rules.service31 later31 (asking request.now.payload.now v) result }
 {
-    if payload.len() < 3 {
-        return Ask::Refused(Nrc::INCORRECT_MESSAGE_LENGTH_OR_INVALID_FORMAT);
+    if request.payload.len() < 3 {
+        return Err(Nrc::INCORRECT_MESSAGE_LENGTH_OR_INVALID_FORMAT);
     }
-    let rest = payload.len() - 3;
-    let act = Act {
+    let rest = request.payload.len() - 3;
+    Ok(Act {
         a: Part::of(1, 1),
         b: Part::of(2, 2),
         c: Part::of(4, rest),
         number: 0x31,
         parts: 3,
-    };
-    Ask::Asks(act)
+    })
 }
 
-pub fn service31(frames: u8, payload: &[u8], err: u8, given: &[u8], room: &mut Room) -> Spoken
-    ensures { (v : Seen) → Speaks Rules.service31 (asking payload.now (handed err given.now v)) frames room.old result room.new }
+pub fn service31(request: &Request, room: &mut Room) -> Spoken
+    ensures { (v : Seen) → Speaks Rules.service31 (asking request.now.payload.now (handed request.now.err request.now.given.now v)) request.now.frames room.old result room.new }
 {
-    let code = service::outcome(err, given, 256);
-    let echo = uds::frame::sub_function(payload);
-    let high = uds::frame::byte(payload, 1);
-    let low = uds::frame::byte(payload, 2);
-    let suppress = uds::frame::suppressed(payload);
+    let outcome = request.outcome(256);
+    let echo = uds::frame::sub_function(request.payload);
+    let high = uds::frame::byte(request.payload, 1);
+    let low = uds::frame::byte(request.payload, 2);
+    let suppress = uds::frame::suppressed(request.payload);
     service::answered(
-        ask31(payload),
-        frames,
-        code,
+        ask31(request),
+        request.frames,
+        outcome,
         suppress,
         &[echo, high, low],
-        given,
+        request.given,
         room,
     )
 }

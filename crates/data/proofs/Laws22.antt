@@ -1,24 +1,17 @@
 -- One law for each way out of a reading.
-use Prim.Native.Nat.{ℕ, ◌+◌, ◌-◌, ◌*◌, ◌%◌, ◌≤◌, ◌<◌}
-use mathlib.Core.Path.{◌≡◌, refl, ap, sym, ◌∙◌}
+use Prim.Native.Nat.{ℕ, ◌+◌, ◌*◌, ◌%◌, ◌≤◌, ◌<◌}
+use mathlib.Core.Path.{◌≡◌, refl, sym, ◌∙◌}
 use mathlib.Core.Bool.{true, false}
-use mathlib.Core.List.{List, [], ◌∷◌}
+use mathlib.Core.List.{List, [], ◌∷◌, ◌++◌}
 use native.Mathlib.Omega.{arith}
-use native.Mathlib.Numerals.{add-one}
-use native.Mathlib.Nat.{add_assoc}
-use lib.ListN.{length, get_or, take, drop, length-drop}
-use lib.Seq.{drop-cons}
+use lib.ListN.{length, get_or}
 use borrow.Author.Tests.{le-leb, lt-leb, eq-eqb, ne_eqb}
 use Rattle.model.specs.Config.{find_did, readable, level_of}
 use Rattle.model.specs.Values as Model
-use Rattle.model.specs.Queue.{Reply, negative}
+use Rattle.model.specs.Queue.{Reply}
 use Rattle.model.specs.Reply.{refusal}
 use Rattle.model.specs.Service.{Seen, says, answers, refuses}
-use Rattle.model.specs.Service22.{Reading, going, ended, appended, value_appended, read_value, read_one, read_all, read_reply, service22}
-
--- the bytes of a value, which are a part of the pool
-pub valued : (limit : ℕ) (acc pool : List ℕ) (start size : ℕ) (o : Model.Outcome) → Model.bytes (take size (drop start pool)) ≡ o → appended limit acc (take (start + size - start) (drop start pool)) ≡ value_appended limit o acc
-valued limit acc pool start size o e = let k : start + size - start ≡ size = omega arith in rw (k, ← e)
+use Rattle.model.specs.Service22.{Reading, going, ended, onward, appended, value_appended, read_value, read_one, read_all, read_reply, service22}
 
 module _ (v : Seen) (h l : ℕ) (acc : List ℕ) where
   pub unreadable : readable v.session.session_type (find_did v.config (h * 256 + l)) ≡ false → ended (refusal 0x31) ≡ read_one v h l acc
@@ -30,36 +23,37 @@ module _ (v : Seen) (h l : ℕ) (acc : List ℕ) where
     unfolding read_one refusal
     unheld p = rw (e, lt-leb (level_of (find_did v.config (h * 256 + l))) v.session.level p)
 
-    module _ (p : level_of (find_did v.config (h * 256 + l)) ≤ v.session.level) where
-      pub no_place : ended (negative 0x14) ≡ appended v.limit acc (h ∷ l ∷ []) → ended (refusal 0x14) ≡ read_one v h l acc
-      unfolding read_one read_value refusal
-      no_place a = rw (e, le-leb (level_of (find_did v.config (h * 256 + l))) v.session.level p, sym a)
+    pub served : level_of (find_did v.config (h * 256 + l)) ≤ v.session.level → read_one v h l acc ≡ onward (appended v.limit acc (h ∷ l ∷ [])) (value_appended v.limit (Model.value v.limit v.table (h * 256 + l)))
+    unfolding read_one read_value
+    served p = rw (e, le-leb (level_of (find_did v.config (h * 256 + l))) v.session.level p)
 
-      pub placed : (more : List ℕ) → going more ≡ appended v.limit acc (h ∷ l ∷ []) → value_appended v.limit (Model.value v.limit v.table (h * 256 + l)) more ≡ read_one v h l acc
-      unfolding read_one read_value
-      placed more a = rw (e, le-leb (level_of (find_did v.config (h * 256 + l))) v.session.level p, sym a)
+-- the ways out of `read_one`
+pub ruleset reads_one = (unreadable, unheld, served)
 
--- the next identifier of a payload
-two : (p : List ℕ) (i : ℕ) → i + 1 < length p → drop i p ≡ get_or p i 0 ∷ get_or p (i + 1) 0 ∷ drop (i + 2) p
-two p i h = drop-cons p i 0 (omega arith) ∙ ap (◌∷◌ (get_or p i 0)) (rw (← add-one i) (drop-cons p (i + 1) 0 h ∙ rw (← add-one (i + 1), add_assoc i 1 1)))
+-- a rest of fewer than two bytes
+pub no_more : (v : Seen) (rest acc : List ℕ) → length rest < 2 → read_all v rest acc ≡ going acc
+no_more v [] acc h = refl
+no_more v (x ∷ []) acc h = refl
+no_more v (x ∷ y ∷ rest) acc h = absurd (omega arith)
 
-module _ (v : Seen) (p : List ℕ) (i : ℕ) (whole : Reading) (acc : List ℕ) (inv : whole ≡ read_all v (drop i p) acc) where
+-- the next identifier of what is left
+module _ (v : Seen) (whole : Reading) (rest acc : List ℕ) (inv : whole ≡ read_all v rest acc) (id more : List ℕ) (cut : rest ≡ id ++ more) (two : length id ≡ 2) where
+  next_id : whole ≡ onward (read_one v (get_or id 0 0) (get_or id 1 0) acc) (read_all v more)
+  next_id = inv ∙ rw cut (go id two)
+    where
+      go : (q : List ℕ) → length q ≡ 2 → read_all v (q ++ more) acc ≡ onward (read_one v (get_or q 0 0) (get_or q 1 0) acc) (read_all v more)
+      go [] h = absurd (omega arith)
+      go (x ∷ []) h = absurd (omega arith)
+      go (x ∷ y ∷ []) h = refl
+      go (x ∷ y ∷ z ∷ q) h = absurd (omega arith)
+
   -- it goes on
-  pub onwards : (more : List ℕ) → i + 1 < length p → going more ≡ read_one v (get_or p i 0) (get_or p (i + 1) 0) acc → whole ≡ read_all v (drop (i + 2) p) more
-  onwards more h e = inv ∙ rw (two p i h, sym e)
+  pub onwards : (next : List ℕ) → going next ≡ read_one v (get_or id 0 0) (get_or id 1 0) acc → whole ≡ read_all v more next
+  onwards next e = next_id ∙ rw (sym e)
 
   -- it ends there
-  pub ends : (r : Reply) → i + 1 < length p → ended r ≡ read_one v (get_or p i 0) (get_or p (i + 1) 0) acc → ended r ≡ whole
-  ends r h e = sym (inv ∙ rw (two p i h, sym e))
-
-  -- no two bytes are left
-  pub finished : length p ≤ i + 1 → going acc ≡ whole
-  finished h = sym (inv ∙ short (drop i p) (omega (arith, length-drop i p)))
-    where
-      short : (q : List ℕ) → length q ≤ 1 → read_all v q acc ≡ going acc
-      short [] z = refl
-      short (x ∷ []) z = refl
-      short (x ∷ y ∷ q) z = absurd (omega arith)
+  pub ends : (r : Reply) → ended r ≡ read_one v (get_or id 0 0) (get_or id 1 0) acc → ended r ≡ whole
+  ends r e = sym (next_id ∙ rw (sym e))
 
 -- the length of a payload
 module _ (v : Seen) where
@@ -74,3 +68,6 @@ module _ (v : Seen) where
   pub even : 2 ≤ length v.payload → length v.payload % 2 ≡ 0 → service22 v ≡ answers (says v (read_reply (read_all v v.payload [])))
   unfolding service22
   even h e = rw (le-leb 2 (length v.payload) h, eq-eqb (length v.payload % 2) 0 e)
+
+-- what is no payload of identifiers
+pub ruleset reads = (too_short, odd)

@@ -6,11 +6,11 @@ use Rattle.data.proofs.service22.service22.Reads as service22
 use Rattle.data.proofs.service2E.ask2E.Reads as ask2E
 use Rattle.data.proofs.service2E.service2E.Reads as service2E
 
-pub service22_settled : (κs : _) (a : _) → Settles (service22.Post κs a) (λ x e y f. SameSpoken a.1.1.1.0 x y e.1.1.1.1.1.1.1.0.now f.1.1.1.1.1.1.1.0.now)
+pub service22_settled : (κs : _) (a : _) → Settles (service22.Post κs a) (λ x e y f. SameSpoken a.0.now.frames x y e.1.0.now f.1.0.now)
 service22_settled κs a x e y f p q = same-spoken (p blank) (q blank)
 
 pub ask2E_settled : (κs : _) (a : _) → Settles (ask2E.Post κs a) (λ x e y f. asked_act x ≡ asked_act y)
 ask2E_settled κs a x e y f p q = same_asked (p blank) (q blank)
 
-pub service2E_settled : (κs : _) (a : _) → Settles (service2E.Post κs a) (λ x e y f. SameSpoken a.1.1.1.0 x y e.1.1.1.1.1.1.1.0.now f.1.1.1.1.1.1.1.0.now)
+pub service2E_settled : (κs : _) (a : _) → Settles (service2E.Post κs a) (λ x e y f. SameSpoken a.0.now.frames x y e.1.0.now f.1.0.now)
 service2E_settled κs a x e y f p q = same-spoken (p blank) (q blank)

@@ -1,17 +1,19 @@
 -- What a reading in the making means, and of which requests the promises speak.
-use Rattle.std.specs.Prelude.{ℕ, ◌≡◌, List}
+use Rattle.std.specs.Prelude.{ℕ, ◌≡◌, List, Result, Ok, Err}
 use Rattle.model.specs.Reply.{refusal}
 use Rattle.model.specs.Service.{Seen, says, answers}
 use Rattle.model.specs.Service22 as Rules
 use Rattle.queue.specs.View.{Unseen, draft_of, reply_of}
 use Rattle.queue.specs.declared.reply.Reply.{Reply}
 use Rattle.service.specs.Seen.{asking, configured, in_session, valued}
-use Rattle.data.specs.declared.service22.Reading.{Reading}
-use Rattle.data.specs.declared.service22.Reading.TheVariants.{Going, Ended}
+
+-- how many bytes the reply has so far, or the code that ends it
+abbrev pub Reading : Type 0
+Reading = Result ℕ ℕ
 
 abbrev pub reading_of : Reading → ℕ → List ℕ → Rules.Reading
-reading_of (Going len) count room = Rules.going (draft_of count len room)
-reading_of (Ended code) count room = Rules.ended (refusal code)
+reading_of (Ok len) count room = Rules.going (draft_of count len room)
+reading_of (Err code) count room = Rules.ended (refusal code)
 
 -- a reading goes on as it should, and nothing shows it yet
 pub record Reads (count : ℕ) (should : Rules.Reading) (before : List ℕ) (r : Reading) (after : List ℕ) : Type 0 where

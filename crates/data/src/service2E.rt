@@ -6,61 +6,40 @@ ghost use Rattle.service.specs.Act.{Asked};
 ghost use Rattle.service.specs.Seen.{asking, handed, configured, in_session, Speaks};
 ghost use Rattle.data.specs.Later.{later2E};
 
-use config::Config;
 use queue::Room;
-use queue::reply::Reply;
-use service::{Act, Ask, Part, Spoken};
+use service::{Act, Part, Request, Spoken};
 use uds::nrc::Nrc;
 
 // Before the act's outcome is known.
-pub fn ask2E(config: &Config, session: u8, level: u8, payload: &[u8]) -> Ask
-    ensures { (v : Seen) → Asked Rules.service2E later2E (asking payload.now (configured config.now (in_session session level v))) result }
+#[tactic(auto, using(crate::proofs::Laws2E::ways2E))]
+pub fn ask2E(request: &Request) -> Result<Act, u8>
+    ensures { (v : Seen) → Asked Rules.service2E later2E (asking request.now.payload.now (configured request.now.config.now (in_session request.now.session request.now.level v))) result }
 {
-    let n = payload.len();
+    let n = request.payload.len();
     if n < 3 {
-        return Ask::Refused(Nrc::INCORRECT_MESSAGE_LENGTH_OR_INVALID_FORMAT);
+        return Err(Nrc::INCORRECT_MESSAGE_LENGTH_OR_INVALID_FORMAT);
     }
-    let did = config::find_did(config, uds::frame::word(payload, 0));
-    if !config::writable_in(config, did, session) {
-        return Ask::Refused(Nrc::REQUEST_OUT_OF_RANGE);
+    let did = config::find_did(request.config, uds::frame::word(request.payload, 0));
+    if !config::writable_in(request.config, did, request.session) {
+        return Err(Nrc::REQUEST_OUT_OF_RANGE);
     }
-    if (level as u32) < config::did_level(config, did) {
-        return Ask::Refused(Nrc::SECURITY_ACCESS_DENIED);
+    if u32::from(request.level) < config::did_level(request.config, did) {
+        return Err(Nrc::SECURITY_ACCESS_DENIED);
     }
-    let act = Act {
+    Ok(Act {
         a: Part::of(1, 2),
         b: Part::of(3, n - 2),
         c: Part::NONE,
         number: 0x2E,
         parts: 2,
-    };
-    Ask::Asks(act)
+    })
 }
 
-pub fn service2E(
-    config: &Config,
-    session: u8,
-    level: u8,
-    frames: u8,
-    payload: &[u8],
-    err: u8,
-    given: &[u8],
-    room: &mut Room,
-) -> Spoken
-    ensures { (v : Seen) → Speaks Rules.service2E (asking payload.now (handed err given.now (configured config.now (in_session session level v)))) frames room.old result room.new }
+pub fn service2E(request: &Request, room: &mut Room) -> Spoken
+    ensures { (v : Seen) → Speaks Rules.service2E (asking request.now.payload.now (handed request.now.err request.now.given.now (configured request.now.config.now (in_session request.now.session request.now.level v)))) request.now.frames room.old result room.new }
 {
-    match ask2E(config, session, level, payload) {
-        Ask::Refused(code) => Spoken {
-            reply: Reply::Negative(code),
-            act: Act::none(),
-        },
-        Ask::Asks(act) => {
-            let code = service::outcome(err, given, 256);
-            let echo = service::first(payload, 2);
-            Spoken {
-                reply: service::acted(frames, code, false, &[], echo, room),
-                act,
-            }
-        }
-    }
+    let ask = ask2E(request);
+    let outcome = request.outcome(256);
+    let echo = service::first(request.payload, 2);
+    service::answered(ask, request.frames, outcome, false, &[], echo, room)
 }

@@ -5,9 +5,9 @@ use Rattle.dispatch.proofs.serve.Reads as serve
 use Rattle.dispatch.proofs.guarded.Reads as guarded
 
 pub serve_settled : (κs : _) (a : _)
-    → Settles (serve.Post κs a) (λ x e y f. SameWanted a.1.1.1.1.1.1.1.0.0 a.1.1.1.1.0 x y e.1.1.1.1.1.1.1.1.1.1.1.1.1.0.now f.1.1.1.1.1.1.1.1.1.1.1.1.1.0.now e.1.1.1.1.1.1.1.1.1.1.1.1.1.1.0.now f.1.1.1.1.1.1.1.1.1.1.1.1.1.1.0.now e.1.1.1.1.1.1.1.1.1.1.1.1.1.1.1.0.now f.1.1.1.1.1.1.1.1.1.1.1.1.1.1.1.0.now)
+    → Settles (serve.Post κs a) (λ x e y f. SameWanted a.1.0.now.t.0 a.1.0.now.frames x y e.1.1.0.now f.1.1.0.now e.1.1.1.0.now f.1.1.1.0.now e.1.1.1.1.0.now f.1.1.1.1.0.now)
 serve_settled κs a x e y f p q = same-wanted p q
 
 pub guarded_settled : (κs : _) (a : _)
-    → Settles (guarded.Post κs a) (λ x e y f. SameWanted a.1.1.1.1.1.1.1.0.0 a.1.1.1.1.0 x y e.1.1.1.1.1.1.1.1.1.1.1.1.1.0.now f.1.1.1.1.1.1.1.1.1.1.1.1.1.0.now e.1.1.1.1.1.1.1.1.1.1.1.1.1.1.0.now f.1.1.1.1.1.1.1.1.1.1.1.1.1.1.0.now e.1.1.1.1.1.1.1.1.1.1.1.1.1.1.1.0.now f.1.1.1.1.1.1.1.1.1.1.1.1.1.1.1.0.now)
+    → Settles (guarded.Post κs a) (λ x e y f. SameWanted a.1.0.now.t.0 a.1.0.now.frames x y e.1.1.0.now f.1.1.0.now e.1.1.1.0.now f.1.1.1.0.now e.1.1.1.1.0.now f.1.1.1.1.0.now)
 guarded_settled κs a x e y f p q = same-wanted p q

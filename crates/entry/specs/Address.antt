@@ -1,10 +1,11 @@
 -- Whom a frame is for, in the definition's words.
+use Rattle.std.specs.Prelude.{Option as Maybe, Some, None}
+use Rattle.std.specs.Prelude.{Bool}
 use Rattle.std.proofs.Math.Option.{Option, some, none}
 use Rattle.model.specs.State.{AddressMode}
 use Rattle.queue.specs.View.{mode_of}
-use Rattle.entry.specs.declared.Address.{Address}
-use Rattle.entry.specs.declared.Address.TheVariants.{By, Foreign}
 
-abbrev pub addressed_of : Address → Option AddressMode
-addressed_of (By functional) = some (mode_of functional)
-addressed_of Foreign = none
+-- functionally or not, or none where it is for another
+abbrev pub addressed_of : Maybe Bool → Option AddressMode
+addressed_of (Some functional) = some (mode_of functional)
+addressed_of None = none

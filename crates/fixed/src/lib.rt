@@ -23,11 +23,9 @@ fn sessions(config: Config) -> Config
 fn services(mut config: Config, ids: &[u8]) -> Config
     ensures { config_of result ≡ add_services (config_of config) ids.now }
 {
-    let mut i = 0;
-    while i < ids.len() {
-        let next = build::with_service(config, ServiceConfig::new(ids[i], b"\x01\x03"));
+    for id in ids {
+        let next = build::with_service(config, ServiceConfig::new(*id, b"\x01\x03"));
         config = next;
-        i += 1;
     }
     config
 }

@@ -9,10 +9,12 @@ ghost use Rattle.lines.specs.View.{text_of, appended, gap, flag_of};
 
 use std::io::Result;
 
-const UPPER: u8 = 55;
+// What is added to a digit from ten on.
+const UPPER: u8 = b'A' - 10;
 
-const LOWER: u8 = 87;
+const LOWER: u8 = b'a' - 10;
 
+// The buffer is fixed, since there is no heap.
 #[derive(Clone, Copy)]
 pub struct Line {
     pub len: usize,
@@ -23,35 +25,10 @@ pub struct Line {
 fn put(line: &mut [u8], at: usize, word: &[u8]) -> usize
     ensures { take result line.new ≡ take (length line.old) (take at line.old ++ word.now) }
 {
-    let mut to = at;
-    let mut i = 0;
-    while i < word.len() {
-        if line.len() <= to {
-            return to;
-        }
-        line[to] = word[i];
-        to += 1;
-        i += 1;
-    }
-    to
-}
-
-// How many bytes the first `n` are: all of them, where there are fewer.
-fn size(bytes: &[u8], n: usize) -> usize
-    ensures { result ≡ length (take n bytes.now) }
-{
-    if n < bytes.len() { n } else { bytes.len() }
-}
-
-// The first `n` bytes, or all, and a line end, to standard output; how many bytes that is. An error is that of a write: then some of the
-// bytes may have been written, and the bytes and `n` are as they were.
-fn write<R: Print>(rt: &R, bytes: &[u8], n: usize) -> Result<usize>
-    ensures { IfOk result (λ k. k ≡ length (take n bytes.now) + 1) }
-{
-    let end = size(bytes, n);
-    rt.write_all(&bytes[0..end])?;
-    rt.write_all(b"\n")?;
-    Ok(end + 1)
+    let from = at.min(line.len());
+    let n = (line.len() - from).min(word.len());
+    line[from..from + n].copy_from_slice(&word[..n]);
+    from + n
 }
 
 // A digit below 16.
@@ -59,7 +36,7 @@ fn digit(d: u8, high: u8) -> u8
     requires { (d < 16) × (high ≤ lower) }
     ensures { result ≡ digitOf high d }
 {
-    if d < 10 { 48 + d } else { high + d }
+    if d < 10 { b'0' + d } else { high + d }
 }
 
 impl Line {
@@ -77,8 +54,7 @@ impl Line {
         ensures { text_of result ≡ appended (text_of self) text.now }
     {
         let mut bytes = self.bytes;
-        let at = self.len;
-        let len = put(&mut bytes, at, text);
+        let len = put(&mut bytes, self.len, text);
         Line { len, bytes }
     }
 
@@ -86,10 +62,8 @@ impl Line {
     fn gap(self) -> Line
         ensures { text_of result ≡ appended (text_of self) (gap (text_of self)) }
     {
-        let bytes = self.bytes;
-        let n = self.len;
-        if size(&bytes, n) == 0 {
-            return self.text(b"");
+        if self.len == 0 {
+            return self;
         }
         self.text(b" ")
     }
@@ -114,10 +88,7 @@ impl Line {
     pub fn flag(self, b: bool) -> Line
         ensures { text_of result ≡ appended (text_of self) (gap (text_of self) ++ flag_of b) }
     {
-        if b {
-            return self.word(b"1");
-        }
-        self.word(b"0")
+        self.word(if b { b"1" } else { b"0" })
     }
 
     // Bytes as one word, two digits each.
@@ -126,11 +97,8 @@ impl Line {
         ensures { text_of result ≡ appended (text_of self) (gap (text_of self) ++ hex high bytes.now) }
     {
         let mut line = self.gap();
-        let mut i = 0;
-        while i < bytes.len() {
-            let b = bytes[i];
+        for &b in bytes {
             line = line.text(&[digit(b / 16, high), digit(b % 16, high)]);
-            i += 1;
         }
         line
     }
@@ -154,8 +122,9 @@ impl Line {
     pub fn print<R: Print>(self, rt: &R) -> Result<usize>
         ensures { IfOk result (λ k. k ≡ length (text_of self) + 1) }
     {
-        let bytes = self.bytes;
-        let n = self.len;
-        write(rt, &bytes, n)
+        let end = self.len.min(self.bytes.len());
+        rt.write_all(&self.bytes[..end])?;
+        rt.write_all(b"\n")?;
+        Ok(end + 1)
     }
 }

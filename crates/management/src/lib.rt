@@ -13,12 +13,13 @@ pub mod service3E;
 
 use queue::Room;
 use queue::reply::Reply;
+use service::Request;
 
-// What comes of an act, by the code of its outcome, where the sub-function is echoed unless suppressed.
-fn echoed(frames: u8, code: u8, payload: &[u8], room: &mut Room) -> Reply
-    ensures { Replies (acted_reply code (suppressed payload.now) (sub_function payload.now ∷ [])) frames room.old result room.new }
+// What comes of an act, by its outcome, where the sub-function is echoed unless suppressed.
+fn echoed(request: &Request, outcome: Result<(), u8>, room: &mut Room) -> Reply
+    ensures { Replies (acted_reply outcome (suppressed request.now.payload.now) (sub_function request.now.payload.now ∷ [])) request.now.frames room.old result room.new }
 {
-    let echo = uds::frame::sub_function(payload);
-    let suppress = uds::frame::suppressed(payload);
-    service::acted(frames, code, suppress, &[echo], &[], room)
+    let echo = uds::frame::sub_function(request.payload);
+    let suppress = uds::frame::suppressed(request.payload);
+    service::acted(request.frames, outcome, suppress, &[echo], &[], room)
 }

@@ -9,70 +9,50 @@ ghost use Rattle.uds.specs.Table.{row_of};
 ghost use Rattle.config.specs.View.{session_at};
 ghost use Rattle.service.specs.Seen.{asking, configured, in_session, secured, subscribed, Replies, Serves};
 
-use config::Config;
 use queue::Room;
 use queue::reply::Reply;
-use service::{Act, Wanted};
+use service::{Act, Request, Wanted};
 use state::apply::Effect;
 use uds::nrc::Nrc;
-use uds::table::Found;
 
 // The session, P2, and a tenth of P2*, unless suppressed.
-fn timings(
-    config: &Config,
-    found: Found,
-    kind: u8,
-    frames: u8,
-    payload: &[u8],
-    room: &mut Room,
-) -> Reply
-    ensures { Replies (pick (suppressed payload.now) silent (positive (Rules.timings kind (row_of (session_at config.now) found)))) frames room.old result room.new }
+fn timings(request: &Request, row: Option<usize>, kind: u8, room: &mut Room) -> Reply
+    ensures { Replies (pick (suppressed request.now.payload.now) silent (positive (Rules.timings kind (row_of (session_at request.now.config.now) row)))) request.now.frames room.old result room.new }
 {
-    let suppress = uds::frame::suppressed(payload);
-    let p2 = config::p2(config, found);
-    let p2_ext = config::p2_ext(config, found);
-    let a = uds::frame::two_bytes(p2.0);
-    let b = uds::frame::two_bytes(p2_ext.0 / 10);
-    service::acted(frames, 0, suppress, &[kind, a.0, a.1, b.0, b.1], &[], room)
+    let suppress = uds::frame::suppressed(request.payload);
+    let p2 = config::p2(request.config, row);
+    let p2_ext = config::p2_ext(request.config, row);
+    let [a, b] = uds::frame::two_bytes(p2.0);
+    let [c, d] = uds::frame::two_bytes(p2_ext.0 / 10);
+    service::acted(
+        request.frames,
+        Ok(()),
+        suppress,
+        &[kind, a, b, c, d],
+        &[],
+        room,
+    )
 }
 
 // An unknown session is 0x12, an absent one is short.
-pub fn service10(
-    config: &Config,
-    session: u8,
-    level: u8,
-    subscriptions: u8,
-    frames: u8,
-    payload: &[u8],
-    room: &mut Room,
-) -> Wanted
-    ensures { (v : Seen) (k subs : List ℕ) → Serves Rules.service10 (in_session session level (secured k (subscribed subscriptions subs (asking payload.now (configured config.now v))))) k subs frames room.old result k subs room.new }
+#[tactic(auto, using(crate::proofs::Laws::short10, crate::proofs::Laws::unknown10, service::proofs::Effects::serves_refused))]
+pub fn service10(request: &Request, room: &mut Room) -> Wanted
+    ensures { (v : Seen) (k subs : List ℕ) → Serves Rules.service10 (in_session request.now.session request.now.level (secured k (subscribed request.now.subscriptions subs (asking request.now.payload.now (configured request.now.config.now v))))) k subs request.now.frames room.old result k subs room.new }
 {
-    if payload.len() < 1 {
-        return service::refused(
-            session,
-            level,
-            subscriptions,
-            Nrc::INCORRECT_MESSAGE_LENGTH_OR_INVALID_FORMAT,
-        );
+    if request.payload.is_empty() {
+        return request.refused(Nrc::INCORRECT_MESSAGE_LENGTH_OR_INVALID_FORMAT);
     }
-    let kind = uds::frame::sub_function(payload);
-    let found = config::find_session(config, kind);
-    let Found::At(_) = found else {
-        return service::refused(
-            session,
-            level,
-            subscriptions,
-            Nrc::SUB_FUNCTION_NOT_SUPPORTED,
-        );
-    };
-    let reply = timings(config, found, kind, frames, payload, room);
+    let kind = uds::frame::sub_function(request.payload);
+    let row = config::find_session(request.config, kind);
+    if row.is_none() {
+        return request.refused(Nrc::SUB_FUNCTION_NOT_SUPPORTED);
+    }
     Wanted {
         effect: Effect {
-            reply,
+            reply: timings(request, row, kind, room),
             session: kind,
             level: 0,
-            subscriptions,
+            subscriptions: request.subscriptions,
             clears_seed: true,
             waits: false,
         },

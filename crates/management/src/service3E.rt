@@ -5,14 +5,14 @@ ghost use Rattle.model.specs.Service3E as Rules;
 ghost use Rattle.service.specs.Seen.{asking, Speaks};
 
 use queue::Room;
-use service::{Act, Spoken};
+use service::{Act, Request, Spoken};
 
-pub fn service3E(frames: u8, payload: &[u8], room: &mut Room) -> Spoken
-    ensures { (v : Seen) → Speaks Rules.service3E (asking payload.now v) frames room.old result room.new }
+#[tactic(auto, using(crate::proofs::Laws::echoes3E, service::proofs::Laws::speaks))]
+pub fn service3E(request: &Request, room: &mut Room) -> Spoken
+    ensures { (v : Seen) → Speaks Rules.service3E (asking request.now.payload.now v) request.now.frames room.old result room.new }
 {
-    let reply = super::echoed(frames, 0, payload, room);
     Spoken {
-        reply,
+        reply: super::echoed(request, Ok(()), room),
         act: Act::none(),
     }
 }

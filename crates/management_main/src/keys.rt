@@ -1,25 +1,19 @@
 // 27, in session 1 with level 2 held.
-use super::{wanted, words};
+use super::{at, handed, requested, wanted, words};
 use access::service27::service27;
 use config::Config;
 use queue::Room;
 use security::Security;
+use service::Request;
 use std::io;
-use uds::clock::Instant;
 
-// Asked at a time, of an outcome, and what is left of the words.
-fn access(
-    rt: &HostRuntime,
-    what: &[u8],
-    c: &Config,
-    k: &mut Security,
-    payload: &[u8],
-    t: u64,
-    err: u8,
-    given: &[u8],
-) -> io::Result<()> {
+// A key of level 5.
+const KEY: [u8; 5] = [6, 1, 2, 3, 4];
+
+// What is answered, and what is left of the words.
+fn access(rt: &HostRuntime, what: &[u8], request: &Request, k: &mut Security) -> io::Result<()> {
     let mut room: Room = [0; 4353];
-    let w = service27(c, 1, 2, 0, 0, payload, Instant(t), err, given, k, &mut room);
+    let w = service27(request, k, &mut room);
     wanted(rt, what, w, &room)?;
     words(rt, k)?;
     Ok(())
@@ -28,11 +22,11 @@ fn access(
 // Short, access type 0, a level that has no row; the suppress bit is ignored.
 fn types(rt: &HostRuntime, c: &Config) -> io::Result<()> {
     let mut k: Security = [0; 68];
-    access(rt, b"27:", c, &mut k, b"", 1000, 0, b"")?;
-    access(rt, b"27 00:", c, &mut k, b"\x00", 1000, 0, b"")?;
-    access(rt, b"27 80:", c, &mut k, b"\x80", 1000, 0, b"")?;
-    access(rt, b"27 07:", c, &mut k, b"\x07", 1000, 0, b"")?;
-    access(rt, b"27 85:", c, &mut k, b"\x85", 1000, 0, &[7; 4])?;
+    access(rt, b"27:", &requested(c, b""), &mut k)?;
+    access(rt, b"27 00:", &requested(c, b"\x00"), &mut k)?;
+    access(rt, b"27 80:", &requested(c, b"\x80"), &mut k)?;
+    access(rt, b"27 07:", &requested(c, b"\x07"), &mut k)?;
+    access(rt, b"27 85:", &handed(c, b"\x85", 0, &[7; 4]), &mut k)?;
     Ok(())
 }
 
@@ -42,43 +36,32 @@ fn seeds(rt: &HostRuntime, c: &Config) -> io::Result<()> {
     access(
         rt,
         b"27 01, 31 bytes:",
-        c,
+        &handed(c, b"\x01", 0, &[0xAB; 31]),
         &mut k,
-        b"\x01",
-        1000,
-        0,
-        &[0xAB; 31],
     )?;
-    access(rt, b"27 01, error 78:", c, &mut k, b"\x01", 1000, 0x78, b"")?;
+    access(
+        rt,
+        b"27 01, error 78:",
+        &handed(c, b"\x01", 0x78, b""),
+        &mut k,
+    )?;
     access(
         rt,
         b"27 01, 30 bytes:",
-        c,
+        &handed(c, b"\x01", 0, &[0xAB; 30]),
         &mut k,
-        b"\x01",
-        1000,
-        0,
-        &[0xAB; 30],
     )?;
     access(
         rt,
         b"27 01, 31 bytes:",
-        c,
+        &handed(c, b"\x01", 0, &[0xCD; 31]),
         &mut k,
-        b"\x01",
-        1000,
-        0,
-        &[0xCD; 31],
     )?;
     access(
         rt,
         b"27 03, 32 bytes:",
-        c,
+        &handed(c, b"\x03", 0, &[0xAB; 32]),
         &mut k,
-        b"\x03",
-        1000,
-        0,
-        &[0xAB; 32],
     )?;
     Ok(())
 }
@@ -100,59 +83,29 @@ fn keys(rt: &HostRuntime, c: &Config) -> io::Result<()> {
     access(
         rt,
         b"27 06, 3 bytes:",
-        c,
+        &requested(c, b"\x06\x01\x02\x03"),
         &mut k,
-        b"\x06\x01\x02\x03",
-        1000,
-        0,
-        b"",
     )?;
     access(
         rt,
         b"27 06, 5 bytes:",
-        c,
+        &requested(c, b"\x06\x01\x02\x03\x04\x05"),
         &mut k,
-        b"\x06\x01\x02\x03\x04\x05",
-        1000,
-        0,
-        b"",
     )?;
     access(
         rt,
         b"27 02:",
-        c,
+        &requested(c, b"\x02\x01\x02\x03\x04"),
         &mut k,
-        b"\x02\x01\x02\x03\x04",
-        1000,
-        0,
-        b"",
     )?;
-    access(
-        rt,
-        b"27 06, accepted:",
-        c,
-        &mut k,
-        b"\x06\x01\x02\x03\x04",
-        1000,
-        0,
-        b"",
-    )?;
-    access(
-        rt,
-        b"27 06, again:",
-        c,
-        &mut k,
-        b"\x06\x01\x02\x03\x04",
-        1000,
-        0,
-        b"",
-    )?;
+    access(rt, b"27 06, accepted:", &requested(c, &KEY), &mut k)?;
+    access(rt, b"27 06, again:", &requested(c, &KEY), &mut k)?;
     Ok(())
 }
 
 fn refused(rt: &HostRuntime, what: &[u8], c: &Config, count: u64, t: u64) -> io::Result<()> {
     let mut k = waiting(5, count);
-    access(rt, what, c, &mut k, b"\x06\x01\x02\x03\x04", t, 0x10, b"")?;
+    access(rt, what, &at(t, handed(c, &KEY, 0x10, b"")), &mut k)?;
     Ok(())
 }
 
@@ -162,46 +115,16 @@ fn counts(rt: &HostRuntime, c: &Config) -> io::Result<()> {
     refused(rt, b"refused after 254:", c, 254, 1000)?;
     refused(rt, b"refused after 255:", c, 255, 1000)?;
     let mut k = waiting(5, 254);
-    access(
-        rt,
-        b"27 06, refused:",
-        c,
-        &mut k,
-        b"\x06\x01\x02\x03\x04",
-        1000,
-        0x10,
-        b"",
-    )?;
-    access(
-        rt,
-        b"27 05 at 10999:",
-        c,
-        &mut k,
-        b"\x05",
-        10_999,
-        0,
-        &[7; 4],
-    )?;
+    let seed = handed(c, b"\x05", 0, &[7; 4]);
+    access(rt, b"27 06, refused:", &handed(c, &KEY, 0x10, b""), &mut k)?;
+    access(rt, b"27 05 at 10999:", &at(10_999, seed), &mut k)?;
     access(
         rt,
         b"27 06 at 10999:",
-        c,
+        &at(10_999, requested(c, &KEY)),
         &mut k,
-        b"\x06\x01\x02\x03\x04",
-        10_999,
-        0,
-        b"",
     )?;
-    access(
-        rt,
-        b"27 05 at 11000:",
-        c,
-        &mut k,
-        b"\x05",
-        11_000,
-        0,
-        &[7; 4],
-    )?;
+    access(rt, b"27 05 at 11000:", &at(11_000, seed), &mut k)?;
     Ok(())
 }
 
@@ -212,37 +135,15 @@ fn edges(rt: &HostRuntime, c: &Config) -> io::Result<()> {
     access(
         rt,
         b"no room to count:",
-        c,
+        &handed(c, &KEY, 0x10, b""),
         &mut k,
-        b"\x06\x01\x02\x03\x04",
-        1000,
-        0x10,
-        b"",
     )?;
     let mut l = waiting(5, 254);
     l[3] = 8;
-    access(
-        rt,
-        b"no room to lock:",
-        c,
-        &mut l,
-        b"\x06\x01\x02\x03\x04",
-        1000,
-        0x10,
-        b"",
-    )?;
+    access(rt, b"no room to lock:", &handed(c, &KEY, 0x10, b""), &mut l)?;
     let mut m = waiting(5, 1);
     m[2] = 9;
-    access(
-        rt,
-        b"nine counts:",
-        c,
-        &mut m,
-        b"\x06\x01\x02\x03\x04",
-        1000,
-        0,
-        b"",
-    )?;
+    access(rt, b"nine counts:", &requested(c, &KEY), &mut m)?;
     refused(rt, b"refused at the last time:", c, 254, 0x1_0000_0000_0000)?;
     refused(rt, b"a time too late:", c, 254, 0x1_0000_0000_0001)?;
     Ok(())

@@ -12,10 +12,36 @@ use lines::Line;
 use queue::Room;
 use queue::reply::Reply;
 use security::Security;
-use service::{Act, Part, Spoken, Wanted};
+use service::{Act, Part, Request, Spoken, Wanted};
 use std::io;
-use uds::clock::Duration;
+use uds::clock::{Duration, Instant};
 use uds::rows::{SecurityLevelConfig, SessionConfig};
+
+// In session 1 with level 2 held, at 1000; nothing is handed in.
+fn requested<'a>(c: &'a Config, payload: &'a [u8]) -> Request<'a> {
+    Request {
+        level: 2,
+        t: Instant(1000),
+        ..Request::of(c, payload)
+    }
+}
+
+// And what is handed in for the act.
+fn handed<'a>(c: &'a Config, payload: &'a [u8], err: u8, given: &'a [u8]) -> Request<'a> {
+    Request {
+        err,
+        given,
+        ..requested(c, payload)
+    }
+}
+
+// The same at another time.
+fn at<'a>(t: u64, request: Request<'a>) -> Request<'a> {
+    Request {
+        t: Instant(t),
+        ..request
+    }
+}
 
 // A reply, as it stands in the first place of a room.
 fn replied(line: Line, reply: Reply, room: &Room) -> Line {
@@ -37,33 +63,27 @@ fn placed(line: Line, p: Part) -> Line {
 
 // Its number and, if there is one, two places.
 fn asked(line: Line, act: Act) -> Line {
-    let next = line.word(b"act").number(act.number as u64);
+    let next = line.word(b"act").number(u64::from(act.number));
     if act.number == 0 {
         return next;
     }
-    let a = act.a;
-    let b = act.b;
-    let parts = next.number(act.parts as u64);
-    placed(placed(parts, a), b)
+    let parts = next.number(u64::from(act.parts));
+    placed(placed(parts, act.a), act.b)
 }
 
 fn spoken(rt: &HostRuntime, what: &[u8], s: Spoken, room: &Room) -> io::Result<()> {
-    let reply = s.reply;
-    let act = s.act;
-    let line = replied(Line::new().text(what), reply, room);
-    asked(line, act).print(rt)?;
+    let line = replied(Line::new().text(what), s.reply, room);
+    asked(line, s.act).print(rt)?;
     Ok(())
 }
 
 fn wanted(rt: &HostRuntime, what: &[u8], w: Wanted, room: &Room) -> io::Result<()> {
     let e = w.effect;
-    let reply = e.reply;
-    let act = w.act;
-    let line = replied(Line::new().text(what), reply, room);
-    asked(line, act)
+    let line = replied(Line::new().text(what), e.reply, room);
+    asked(line, w.act)
         .word(b"wants")
-        .number(e.session as u64)
-        .number(e.level as u64)
+        .number(u64::from(e.session))
+        .number(u64::from(e.level))
         .flag(e.clears_seed)
         .flag(e.waits)
         .print(rt)?;

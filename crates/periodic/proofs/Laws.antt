@@ -1,48 +1,41 @@
--- One law for each way out of a function.
+-- One law for each way out of a function that the check does not find alone.
 use Prim.Native.Nat.{ℕ, ◌+◌, ◌^◌, ◌≤◌, ◌<◌}
 use mathlib.Core.Path.{◌≡◌, refl, ap, ap₂, sym, ◌∙◌}
-use mathlib.Core.Bool.{Bool, true, false, not}
+use mathlib.Core.Bool.{Bool, true, false}
 use mathlib.Core.List.{List}
 use mathlib.Core.Option.{some, none}
 use native.Mathlib.Omega.{arith}
-use native.Mathlib.Decide.{dec_le}
-use lib.Dec.{eqb, leb, ltb}
-use borrow.Author.Tests.{eqb-true, eqb-false, le-leb, lt-leb, lt-ltb, le-ltb}
-use Rattle.model.specs.Tests.{pick, place, all, without}
+use lib.Dec.{eqb, leb}
+use borrow.Author.Tests.{eqb-true, eqb-false, le-leb, lt-leb}
+use Rattle.model.specs.Tests.{pick, place, all}
 use Rattle.model.specs.Numbers.{max_periodic}
 use Rattle.model.specs.Config.{table_within}
 use Rattle.model.specs.State.{Subscription, subscription_valid}
 use Rattle.model.specs.Service2A.{is_subscription, subscription, renewed}
 use Rattle.model.specs.Tick.{advanced}
 use Rattle.model.proofs.Laws.{left, right}
-use Rattle.uds.specs.declared.table.Found.{Found}
-use Rattle.uds.specs.declared.table.Found.TheVariants.{At, Nothing}
+use Rattle.std.specs.Prelude.{Option as Maybe, Some, None}
 use Rattle.uds.specs.Table.{tab, place_of}
 use Rattle.uds.specs.Clock.{later, starts}
 use Rattle.uds.proofs.Times.{in_time}
 use Rattle.uds.proofs.Tab.{tab-same, tab-length}
-use Rattle.periodic.specs.declared.Registered.TheVariants.{Stands, Full}
-use Rattle.periodic.specs.View.{entry_at, table_of, advanced_at, Puts, Registers, Cancels, Advances}
+use Rattle.periodic.specs.View.{entry_at, table_of, advanced_at, Puts, Registers, Advances}
 use Rattle.uds.proofs.Tables.{passing, enter_known, enter-new, enter-full}
 
--- a moment that is not before another is at it or after it
-pub not_before : (t next : ℕ) → not (ltb t next) ≡ leb next t
-not_before t next = elim (dec_le next t) [ yes p ↦ rw (le-ltb t next p, le-leb next t p) | no p ↦ rw (lt-ltb t next (omega arith), lt-leb next t (omega arith)) ]
-
 -- where a found entry stands
-module _ (w : List ℕ) (count x client : ℕ) (found : Found) (is : place_of found ≡ place (is_subscription x client) (table_of count w)) where
-  pub stands : (i : ℕ) → found ≡ At i → place (is_subscription x client) (table_of count w) ≡ some i
+module _ (w : List ℕ) (count x client : ℕ) (found : Maybe ℕ) (is : place_of found ≡ place (is_subscription x client) (table_of count w)) where
+  pub stands : (i : ℕ) → found ≡ Some i → place (is_subscription x client) (table_of count w) ≡ some i
   stands i e = sym is ∙ ap place_of e
 
-  pub unknown : found ≡ Nothing → place (is_subscription x client) (table_of count w) ≡ none
+  pub unknown : found ≡ None → place (is_subscription x client) (table_of count w) ≡ none
   unknown e = sym is ∙ ap place_of e
 
-  pub below : (i : ℕ) → found ≡ At i → i < count
+  pub below : (i : ℕ) → found ≡ Some i → i < count
   below i e = (passing (is_subscription x client) (entry_at w) 0 count i (stands i e)).below
 
 -- an answer is one or the other
-not_full : (n : ℕ) → Full ≡ Stands n → ⊥
-not_full n e = let z : ◌≡◌ {A = ℕ} 0 1 = cc in omega arith
+not_full : (n : ℕ) → None ≡ Some n → ⊥
+not_full n e = cc
 
 -- the entry that is put
 abbrev entered : ℕ → ℕ → ℕ → ℕ → Subscription
@@ -54,11 +47,8 @@ is_it x client e h = (eqb-true e.identifier x (left (eqb e.identifier x) (eqb e.
 
 -- registering
 module _ (w : List ℕ) (count x client interval t : ℕ) where
-  pub register-beyond : max_periodic < count → Registers w count x client interval t Full w
-  register-beyond h = record { table = λ l. absurd (omega arith); beyond = λ l. refl; full = λ e. refl; room = λ n e. absurd (not_full n e) }
-
-  module _ (h : count ≤ max_periodic) (found : Found) (is : place_of found ≡ place (is_subscription x client) (table_of count w)) where
-    pub register-full : found ≡ Nothing → count ≡ max_periodic → Registers w count x client interval t Full w
+  module _ (h : count ≤ max_periodic) (found : Maybe ℕ) (is : place_of found ≡ place (is_subscription x client) (table_of count w)) where
+    pub register-full : found ≡ None → count ≡ max_periodic → Registers w count x client interval t None w
     register-full e z = record {
       table = λ l. sym (enter-full (is_subscription x client) max_periodic (renewed interval (starts t interval)) (subscription x client interval (starts t interval)) (entry_at w) count (unknown w count x client found is e) (omega arith));
       beyond = λ l. refl;
@@ -67,7 +57,7 @@ module _ (w : List ℕ) (count x client interval t : ℕ) where
     }
 
     module _ (next : ℕ) (fits : interval < 2 ^ 64) (late : next ≡ later t interval) (after : List ℕ) where
-      pub register_known : (i : ℕ) → found ≡ At i → Puts w i (entered x client interval next) after → Registers w count x client interval t (Stands count) after
+      pub register_known : (i : ℕ) → found ≡ Some i → Puts w i (entered x client interval next) after → Registers w count x client interval t (Some count) after
       register_known i e puts = record {
         table = λ l. sym (enter_known (is_subscription x client) max_periodic (renewed interval (starts t interval)) (subscription x client interval (starts t interval)) (entry_at w) (entry_at after) count i (stands w count x client found is i e)
             (puts.here ∙ rw (in_time t interval next fits late) (ap₂ (λ (a b : ℕ). subscription a b interval (starts t interval)) (sym same.0) (sym same.1)))
@@ -80,7 +70,7 @@ module _ (w : List ℕ) (count x client interval t : ℕ) where
           same : ((entry_at w i).identifier ≡ x) × ((entry_at w i).client ≡ client)
           same = let z : 0 + i ≡ i = omega arith in is_it x client (entry_at w i) (rw z at (passing (is_subscription x client) (entry_at w) 0 count i (stands w count x client found is i e)).passes)
 
-      pub register-new : found ≡ Nothing → (count ≡ max_periodic → ⊥) → Puts w count (entered x client interval next) after → Registers w count x client interval t (Stands (count + 1)) after
+      pub register-new : found ≡ None → (count ≡ max_periodic → ⊥) → Puts w count (entered x client interval next) after → Registers w count x client interval t (Some (count + 1)) after
       register-new e z puts = record {
         table = λ l. sym (enter-new (is_subscription x client) max_periodic (renewed interval (starts t interval)) (subscription x client interval (starts t interval)) (entry_at w) (entry_at after) count (unknown w count x client found is e) (omega arith)
             (puts.here ∙ rw (in_time t interval next fits late))
@@ -89,14 +79,6 @@ module _ (w : List ℕ) (count x client interval t : ℕ) where
         full = λ q. absurd (not_full (count + 1) (sym q));
         room = λ n q. let q : count + 1 ≡ n = cc in omega arith;
       }
-
--- cancelling
-module _ (w : List ℕ) (count x client : ℕ) where
-  pub cancel-beyond : max_periodic < count → Cancels w count x client count w
-  cancel-beyond h = record { table = λ l. absurd (omega arith); beyond = λ l. refl; as_many = λ l. refl; fewer = omega arith }
-
-  pub cancel-kept : (kept : ℕ) (after : List ℕ) → count ≤ max_periodic → kept ≤ count → table_of kept after ≡ without (is_subscription x client) (table_of count w) → Cancels w count x client kept after
-  cancel-kept kept after h l e = record { table = λ l. e; beyond = λ l. absurd (omega arith); as_many = λ l. absurd (omega arith); fewer = l }
 
 -- advancing
 module _ (w : List ℕ) (count i t : ℕ) where
@@ -114,22 +96,9 @@ module _ (w : List ℕ) (count i t : ℕ) where
   pub advance-past : count ≤ i → Advances w count i t w
   advance-past h = record { table = λ l. rows w (λ j a b. absurd (omega arith)) (λ j n. refl); here = λ l k. absurd (omega arith); others = λ j n. refl; beyond = λ l. refl; past = λ l. refl }
 
-  pub advance-here : (e : Subscription) (next : ℕ) (after : List ℕ) → count ≤ max_periodic → i < count → e ≡ entry_at w i → e.interval < 2 ^ 64 → next ≡ later t e.interval
-      → Puts w i (entered e.identifier e.client e.interval next) after → Advances w count i t after
-  advance-here e next after h k is fits late puts = record {
-    table = λ l. rows after (λ j a b. rw b here) puts.others;
-    here = λ l q. here;
-    others = puts.others;
-    beyond = λ l. absurd (omega arith);
-    past = λ l. absurd (omega arith);
-  }
-    where
-      here : entry_at after i ≡ advanced (starts t (entry_at w i).interval) (entry_at w i)
-      here = puts.here ∙ rw (in_time t e.interval next fits late) (ap (λ (e : Subscription). advanced (starts t e.interval) e) is)
-
 -- a valid table
 module _ (w : List ℕ) (count : ℕ) where
-  pub valid-beyond : max_periodic < count → false ≡ table_within max_periodic subscription_valid (table_of count w)
+  pub valid-beyond : max_periodic < count → leb count max_periodic ≡ table_within max_periodic subscription_valid (table_of count w)
   valid-beyond h = rw (tab-length (entry_at w) 0 count, lt-leb count max_periodic h)
 
   pub valid-within : (b : Bool) → count ≤ max_periodic → b ≡ all subscription_valid (table_of count w) → b ≡ table_within max_periodic subscription_valid (table_of count w)

@@ -1,5 +1,5 @@
 pub mod Without
-pub mod Words
+pub mod Rows
 pub mod Laws
 pub mod Uses
 pub mod Settled

@@ -9,6 +9,7 @@ use native.Mathlib.Omega.{arith}
 use lib.ListN.{length}
 use lib.Dec.{eqb}
 use borrow.Author.Tests.{eqb-true, eqb-false}
+use Rattle.std.specs.Prelude.{Option as Maybe, Some, None}
 use Rattle.model.specs.Numbers.{Moment, Span, max_periodic}
 use Rattle.model.specs.State.{Subscription, fresh_periodic}
 use Rattle.uds.proofs.Promise.{Settles, Answer}
@@ -17,8 +18,6 @@ use Rattle.uds.proofs.Settled.{said}
 use Rattle.uds.proofs.Tab.{tab-same, tab-length}
 use Rattle.periodic.specs.declared.PeriodicEntry.{PeriodicEntry}
 use Rattle.periodic.specs.declared.PeriodicState.{PeriodicState}
-use Rattle.periodic.specs.declared.Registered.{Registered}
-use Rattle.periodic.specs.declared.Registered.TheVariants.{Stands, Full}
 use Rattle.periodic.specs.View.{entry_at, entry_of, table_of, left_by, Registers, Cancels, Advances}
 use Rattle.periodic.proofs.PeriodicState.new.Reads as new
 use Rattle.periodic.proofs.entry_at.Reads as entry_at
@@ -45,19 +44,19 @@ fresh : (r : PeriodicState) → ((w : List ℕ) → table_of r.count w ≡ fresh
 fresh r h = as_many r.count 0 [] [] (h [])
 
 -- register: the answer, and the table that it leaves; where it is full, every word
-pub record SameRegistered (r r' : Registered) (after after' : List ℕ) : Type 0 where
+pub record SameRegistered (r r' : Maybe ℕ) (after after' : List ℕ) : Type 0 where
   pub answer : r ≡ r'
   pub table : left_by r after ≡ left_by r' after'
-  pub words : r ≡ Full → after ≡ after'
+  pub words : r ≡ None → after ≡ after'
 
-registered : {before after after' : List ℕ} {count x client : ℕ} {interval : Span} {t : Moment} {r r' : Registered} → Registers before count x client interval t r after → Registers before count x client interval t r' after' → SameRegistered r r' after after'
+registered : {before after after' : List ℕ} {count x client : ℕ} {interval : Span} {t : Moment} {r r' : Maybe ℕ} → Registers before count x client interval t r after → Registers before count x client interval t r' after' → SameRegistered r r' after after'
 registered {after = after} {after'} {count} {r = r} {r'} p q = elim (dec_le count max_periodic) [ yes l ↦ within (p.table l ∙ sym (q.table l)) | no l ↦ beyond (omega arith) ]
   where
-    same : (r r' : Registered) → left_by r after ≡ left_by r' after' → r ≡ r'
-    same (Stands m) (Stands n) e = let z : table_of m after ≡ table_of n after' = cc in ap Stands (as_many m n after after' z)
-    same (Stands m) Full e = absurd (some-ne-none (table_of m after) e)
-    same Full (Stands n) e = absurd (none-ne-some (table_of n after') e)
-    same Full Full e = refl
+    same : (r r' : Maybe ℕ) → left_by r after ≡ left_by r' after' → r ≡ r'
+    same (Some m) (Some n) e = let z : table_of m after ≡ table_of n after' = cc in ap Some (as_many m n after after' z)
+    same (Some m) None e = absurd (some-ne-none (table_of m after) e)
+    same None (Some n) e = absurd (none-ne-some (table_of n after') e)
+    same None None e = refl
 
     settled : left_by r after ≡ left_by r' after' → r ≡ r' → SameRegistered r r' after after'
     settled t e = record { answer = e; table = t; words = λ z. p.full z ∙ sym (q.full (sym e ∙ z)) }
@@ -66,7 +65,7 @@ registered {after = after} {after'} {count} {r = r} {r'} p q = elim (dec_le coun
     within t = settled t (same r r' t)
 
     beyond : max_periodic < count → SameRegistered r r' after after'
-    beyond l = settled (ap (λ (r : Registered). left_by r after) (p.beyond l) ∙ sym (ap (λ (r : Registered). left_by r after') (q.beyond l))) (p.beyond l ∙ sym (q.beyond l))
+    beyond l = settled (ap (λ (r : Maybe ℕ). left_by r after) (p.beyond l) ∙ sym (ap (λ (r : Maybe ℕ). left_by r after') (q.beyond l))) (p.beyond l ∙ sym (q.beyond l))
 
 -- cancel: how many stand, and the table; beyond sixteen, every word
 pub record SameCancelled (count r r' : ℕ) (after after' : List ℕ) : Type 0 where

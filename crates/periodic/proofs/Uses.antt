@@ -6,6 +6,7 @@ use mathlib.Core.List.{List}
 use native.Mathlib.Omega.{arith}
 use lib.Dec.{ltb}
 use borrow.Author.Tests.{leb-true, ltb-true}
+use Rattle.std.specs.Prelude.{Option as Maybe}
 use Rattle.model.specs.Tests.{all}
 use Rattle.model.specs.Numbers.{Moment, Span, max_periodic, max_time, max_span}
 use Rattle.model.specs.Config.{table_within}
@@ -17,11 +18,10 @@ use Rattle.uds.specs.Table.{tab}
 use Rattle.uds.specs.Clock.{last_moment}
 use Rattle.uds.proofs.Times.{on_the_clock}
 use Rattle.uds.proofs.Tab.{tab-length}
-use Rattle.periodic.specs.declared.Registered.{Registered}
 use Rattle.periodic.specs.View.{entry_at, table_of, left_by, Registers, Advances}
 
 -- registering and advancing are then the definition's, word for word
-pub registers : {before after : List ℕ} {count x client : ℕ} {interval : Span} {t : Moment} {r : Registered} → Registers before count x client interval t r after → count ≤ max_periodic → t + interval ≤ last_moment
+pub registers : {before after : List ℕ} {count x client : ℕ} {interval : Span} {t : Moment} {r : Maybe ℕ} → Registers before count x client interval t r after → count ≤ max_periodic → t + interval ≤ last_moment
     → left_by r after ≡ register x client interval t (table_of count before)
 registers {interval = interval} {t = t} p h l = rw (on_the_clock t interval l) at (p.table h)
 

@@ -1,21 +1,15 @@
 -- A walk that keeps, in place, the rows that do not pass a test: what is kept stands before what is left to look at.
 use Prim.Native.Nat.{ℕ, ◌+◌, ◌-◌, ◌≤◌, ◌<◌}
-use mathlib.Core.Path.{◌≡◌, ap, sym, ◌∙◌}
+use mathlib.Core.Path.{◌≡◌, sym, ◌∙◌}
 use mathlib.Core.Bool.{Bool, true, false}
-use mathlib.Core.List.{List, ◌++◌, append_assoc, append-nil}
+use mathlib.Core.List.{List, ◌++◌, append_assoc}
 use native.Mathlib.Omega.{arith}
 use Rattle.model.specs.Tests.{without}
 use Rattle.uds.specs.Table.{tab}
-use Rattle.uds.proofs.Tab.{tab_cons, tab-end, tab-all, tab-same, tab_snoc}
+use Rattle.uds.proofs.Tab.{tab_cons, tab-same, tab_snoc}
 
 module _ {B : Type 0} (p : B → Bool) (f : ℕ → B) (n : ℕ) where
-  pub start : without p (tab f 0 n) ≡ tab f 0 0 ++ without p (tab f 0 (n - 0))
-  start = ap (without p) (tab-all f n)
-
   module _ (kept i : ℕ) (whole : List B) (inv : whole ≡ tab f 0 kept ++ without p (tab f i (n - i))) where
-    pub ended : n ≤ i → tab f 0 kept ≡ whole
-    ended h = sym (inv ∙ rw (tab-end f n i h, append-nil))
-
     module _ (h : i < n) where
       pub passed_over : p (f i) ≡ true → whole ≡ tab f 0 kept ++ without p (tab f (i + 1) (n - (i + 1)))
       passed_over e = inv ∙ rw (tab_cons f n i h, e)

@@ -1,4 +1,5 @@
 -- The subscription table as lent words, seen as the definition's list, and what each function leaves of it.
+use Rattle.std.specs.Prelude.{Option as Maybe, Some, None}
 use Rattle.std.specs.Prelude.{ℕ, ◌+◌, ◌*◌, ◌%◌, ◌^◌, ◌≤◌, ◌<◌, ◌≡◌, Bool, ◌&&◌, List, get_or, nat_eq, nat_le, nat_lt}
 use Rattle.std.proofs.Math.Option.{Option, some, none}
 use Rattle.model.specs.Tests.{pick, without}
@@ -9,8 +10,6 @@ use Rattle.model.specs.Tick.{advanced}
 use Rattle.uds.specs.Table.{tab}
 use Rattle.uds.specs.Clock.{starts}
 use Rattle.periodic.specs.declared.PeriodicEntry.{PeriodicEntry}
-use Rattle.periodic.specs.declared.Registered.{Registered}
-use Rattle.periodic.specs.declared.Registered.TheVariants.{Stands, Full}
 
 -- a word of entry i; 0 outside the words
 abbrev pub cell_at : List ℕ → ℕ → ℕ → ℕ
@@ -34,16 +33,16 @@ pub record Puts (before : List ℕ) (i : ℕ) (e : Subscription) (after : List �
   pub others : (j : ℕ) → (j ≡ i → ⊥) → entry_at after j ≡ entry_at before j
 
 -- the table that an answer leaves
-abbrev pub left_by : Registered → List ℕ → Option (List Subscription)
-left_by (Stands n) w = some (table_of n w)
-left_by Full w = none
+abbrev pub left_by : Maybe ℕ → List ℕ → Option (List Subscription)
+left_by (Some n) w = some (table_of n w)
+left_by None w = none
 
 -- registering is the definition's; a refusal leaves the words as they were, and so does a count that no table has
-pub record Registers (before : List ℕ) (count x client : ℕ) (interval : Span) (t : Moment) (r : Registered) (after : List ℕ) : Type 0 where
+pub record Registers (before : List ℕ) (count x client : ℕ) (interval : Span) (t : Moment) (r : Maybe ℕ) (after : List ℕ) : Type 0 where
   pub table : count ≤ max_periodic → left_by r after ≡ register x client interval (starts t interval) (table_of count before)
-  pub beyond : max_periodic < count → r ≡ Full
-  pub full : r ≡ Full → after ≡ before
-  pub room : (n : ℕ) → r ≡ Stands n → n ≤ max_periodic
+  pub beyond : max_periodic < count → r ≡ None
+  pub full : r ≡ None → after ≡ before
+  pub room : (n : ℕ) → r ≡ Some n → n ≤ max_periodic
 
 -- cancelling is the definition's, and leaves no more than stood; under a count that no table has every word stays
 pub record Cancels (before : List ℕ) (count x client r : ℕ) (after : List ℕ) : Type 0 where

@@ -2,7 +2,7 @@
 // words, and how many entries stand goes beside it by value. Every promise is an equation to the definition in the crate `model`.
 #![tactic(auto)]
 
-ghost use Rattle.std.specs.Prelude.{◌≡◌, ℕ, ◌<◌, List, length};
+ghost use Rattle.std.specs.Prelude.{◌≡◌, ℕ, ◌<◌, List};
 ghost use Rattle.model.specs.Tests.{place};
 ghost use Rattle.model.specs.Numbers.{max_periodic};
 ghost use Rattle.model.specs.Config.{table_within};
@@ -12,14 +12,13 @@ ghost use Rattle.uds.specs.Table.{place_of};
 ghost use Rattle.periodic.specs.View.{cell_at, entry_at, entry_of, table_of, due_at, Puts, Registers, Cancels, Advances};
 
 use uds::clock::{Duration, Instant};
-use uds::table::Found;
 
-// Sixteen entries of four words: identifier, client, interval, next.
+// Sixteen entries of four words: identifier, client, interval, next. They stay words, since it is fixed memory that C lends.
 pub type Subscriptions = [u64; 64];
 
 pub const MAX_PERIODIC: u8 = 16;
 
-#[derive(Clone, Copy)]
+#[derive(Clone, Copy, PartialEq, Eq)]
 pub struct PeriodicEntry {
     pub identifier: u16,
     pub client: u32,
@@ -27,15 +26,8 @@ pub struct PeriodicEntry {
     pub next: Instant,
 }
 
-// What registering answers: how many entries stand now, or that there is no room for another.
-#[derive(Clone, Copy)]
-pub enum Registered {
-    Stands(u8),
-    Full,
-}
-
 // How many entries stand; the words that hold them are lent beside it.
-#[derive(Clone, Copy)]
+#[derive(Clone, Copy, PartialEq, Eq)]
 pub struct PeriodicState {
     pub count: u8,
 }
@@ -49,26 +41,12 @@ impl PeriodicState {
     }
 }
 
-// How many words are lent: an array tells its length to the proof only where it is lent as a slice.
-fn size(words: &[u64]) -> usize
-    ensures { result ≡ length words.now }
-{
-    words.len()
-}
-
-// A word of entry `i`: 0 past the end, however far.
+// A word of entry `i`: 0 past the end. A place past the last number is past the end too, and is not wrapped to an earlier one.
 fn cell(words: &[u64], i: usize, field: usize) -> u64
-    requires { field < 4 }
     ensures { result ≡ cell_at words.now i field }
 {
-    if words.len() / 4 < i {
-        return 0;
-    }
-    let at = 4 * i + field;
-    if at < words.len() {
-        return words[at];
-    }
-    0
+    let at = i.saturating_mul(4).saturating_add(field);
+    words.get(at).copied().unwrap_or(0)
 }
 
 // Entry `i`, of which an identifier is 16 bits and a client 32: all 0 past the end.
@@ -90,10 +68,9 @@ fn put(subs: &mut Subscriptions, i: usize, e: PeriodicEntry)
     requires { i < 16 }
     ensures { Puts subs.old i (entry_of e) subs.new }
 {
-    let n = size(subs);
     let at = 4 * i;
-    subs[at] = e.identifier as u64;
-    subs[at + 1] = e.client as u64;
+    subs[at] = u64::from(e.identifier);
+    subs[at + 1] = u64::from(e.client);
     subs[at + 2] = e.interval.0;
     subs[at + 3] = e.next.0;
 }
@@ -107,21 +84,14 @@ fn is_subscription(subs: &Subscriptions, i: usize, identifier: u16, client: u32)
 }
 
 // The first of the entries that stand that is the client's subscription to the identifier.
-pub fn find(subs: &Subscriptions, count: u8, identifier: u16, client: u32) -> Found
+pub fn find(subs: &Subscriptions, count: u8, identifier: u16, client: u32) -> Option<usize>
     ensures { place_of result ≡ place (is_subscription identifier client) (table_of count subs.now) }
 {
-    let n = count as usize;
-    let mut i: usize = 0;
-    while i < n {
-        if is_subscription(subs, i, identifier, client) {
-            return Found::At(i);
-        }
-        i += 1;
-    }
-    Found::Nothing
+    (0..usize::from(count)).find(|&i| is_subscription(subs, i, identifier, client))
 }
 
-// The same identifier and client renews the first such entry; another is added at the end; a full table is as it was.
+// The same identifier and client renews the first such entry; another is added at the end. How many entries stand now: none is said where
+// there is no room for another, and the table is as it was.
 pub fn register(
     subs: &mut Subscriptions,
     count: u8,
@@ -129,11 +99,11 @@ pub fn register(
     client: u32,
     interval: Duration,
     t: Instant,
-) -> Registered
+) -> Option<u8>
     ensures { Registers subs.old count identifier client interval.0 t.0 result subs.new }
 {
     if MAX_PERIODIC < count {
-        return Registered::Full;
+        return None;
     }
     let e = PeriodicEntry {
         identifier,
@@ -141,15 +111,15 @@ pub fn register(
         interval,
         next: t.plus(interval),
     };
-    if let Found::At(i) = find(subs, count, identifier, client) {
+    if let Some(i) = find(subs, count, identifier, client) {
         put(subs, i, e);
-        return Registered::Stands(count);
+        return Some(count);
     }
     if count == MAX_PERIODIC {
-        return Registered::Full;
+        return None;
     }
-    put(subs, count as usize, e);
-    Registered::Stands(count + 1)
+    put(subs, usize::from(count), e);
+    Some(count + 1)
 }
 
 // The client's subscriptions to the identifier are taken out; the others move up in their order.
@@ -160,16 +130,12 @@ pub fn cancel(subs: &mut Subscriptions, count: u8, identifier: u16, client: u32)
         return count;
     }
     let mut kept: u8 = 0;
-    let mut i: u8 = 0;
-    while i < count {
-        if is_subscription(subs, i as usize, identifier, client) {
-            i += 1;
-            continue;
+    for i in 0..usize::from(count) {
+        if !is_subscription(subs, i, identifier, client) {
+            let e = entry_at(subs, i);
+            put(subs, usize::from(kept), e);
+            kept += 1;
         }
-        let e = entry_at(subs, i as usize);
-        put(subs, kept as usize, e);
-        kept += 1;
-        i += 1;
     }
     kept
 }
@@ -178,21 +144,14 @@ pub fn cancel(subs: &mut Subscriptions, count: u8, identifier: u16, client: u32)
 pub fn due(subs: &Subscriptions, count: u8, i: usize, t: Instant) -> bool
     ensures { result ≡ due_at count subs.now i t.0 }
 {
-    if i < count as usize {
-        let e = entry_at(subs, i);
-        return !t.is_before(e.next);
-    }
-    false
+    i < usize::from(count) && !t.is_before(entry_at(subs, i).next)
 }
 
 // Entry `i`, if it stands, is next due its own interval from now.
 pub fn advance(subs: &mut Subscriptions, count: u8, i: usize, t: Instant)
     ensures { Advances subs.old count i t.0 subs.new }
 {
-    if MAX_PERIODIC < count {
-        return;
-    }
-    if count as usize <= i {
+    if MAX_PERIODIC < count || usize::from(count) <= i {
         return;
     }
     let mut e = entry_at(subs, i);
@@ -204,26 +163,12 @@ pub fn advance(subs: &mut Subscriptions, count: u8, i: usize, t: Instant)
 fn entry_valid(e: PeriodicEntry) -> bool
     ensures { result ≡ subscription_valid (entry_of e) }
 {
-    if !e.interval.within() {
-        return false;
-    }
-    e.next.is_valid()
+    e.interval.within() && e.next.is_valid()
 }
 
 // At most sixteen entries stand, and each keeps the numbers.
 pub fn subscriptions_valid(subs: &Subscriptions, count: u8) -> bool
     ensures { result ≡ table_within max_periodic subscription_valid (table_of count subs.now) }
 {
-    if MAX_PERIODIC < count {
-        return false;
-    }
-    let n = count as usize;
-    let mut i: usize = 0;
-    while i < n {
-        if !entry_valid(entry_at(subs, i)) {
-            return false;
-        }
-        i += 1;
-    }
-    true
+    count <= MAX_PERIODIC && (0..usize::from(count)).all(|i| entry_valid(entry_at(subs, i)))
 }

@@ -121,10 +121,7 @@ pub(crate) fn valid(rt: &HostRuntime) -> io::Result<()> {
 // An identifier is the low 16 bits of its word and a client the low 32; past the words all is 0.
 pub(crate) fn wide(rt: &HostRuntime) -> io::Result<()> {
     let mut subs = [0u64; 64];
-    subs[0] = 0x1_F201;
-    subs[1] = 0x1_0000_0E80;
-    subs[2] = 0x1_0000_0000;
-    subs[3] = Instant::LAST;
+    subs[..4].copy_from_slice(&[0x1_F201, 0x1_0000_0E80, 0x1_0000_0000, Instant::LAST]);
     text(rt, b"wide words")?;
     entry(rt, &subs, 0)?;
     entry(rt, &subs, 16)?;

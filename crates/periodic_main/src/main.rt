@@ -16,7 +16,10 @@ use uds::clock::{Duration, Instant};
 fn several(rt: &HostRuntime) -> io::Result<()> {
     let mut subs = [0u64; 64];
     let fresh = PeriodicState::new().count;
-    Line::new().text(b"fresh:").number(fresh as u64).print(rt)?;
+    Line::new()
+        .text(b"fresh:")
+        .number(u64::from(fresh))
+        .print(rt)?;
     let one = register(rt, b"registered:", &mut subs, fresh, 61953, 3712, 2000, 100)?;
     let two = register(rt, b"registered:", &mut subs, one, 61953, 3713, 500, 100)?;
     let three = register(rt, b"registered:", &mut subs, two, 61954, 3712, 50, 100)?;
@@ -38,18 +41,9 @@ fn several(rt: &HostRuntime) -> io::Result<()> {
 // A table handed in that has a subscription twice: the first is renewed, and both are cancelled.
 fn twice(rt: &HostRuntime) -> io::Result<()> {
     let mut subs = [0u64; 64];
-    subs[0] = 61953;
-    subs[1] = 3712;
-    subs[2] = 50;
-    subs[3] = 100;
-    subs[4] = 61954;
-    subs[5] = 3713;
-    subs[6] = 60;
-    subs[7] = 200;
-    subs[8] = 61953;
-    subs[9] = 3712;
-    subs[10] = 70;
-    subs[11] = 300;
+    subs[..4].copy_from_slice(&[61953, 3712, 50, 100]);
+    subs[4..8].copy_from_slice(&[61954, 3713, 60, 200]);
+    subs[8..12].copy_from_slice(&[61953, 3712, 70, 300]);
     register(rt, b"twice, renewed:", &mut subs, 3, 61953, 3712, 500, 1000)?;
     entry(rt, &subs, 0)?;
     entry(rt, &subs, 1)?;
@@ -61,19 +55,17 @@ fn twice(rt: &HostRuntime) -> io::Result<()> {
 
 // Fifteen subscriptions of one client, entry `i` to identifier 61952 plus i and with interval i.
 fn fifteen(subs: &mut Subscriptions) -> u8 {
-    let mut i: u8 = 0;
-    while i < 15 {
+    for i in 0..15u8 {
         periodic::register(
             subs,
             i,
-            61952 + i as u16,
+            61952 + u16::from(i),
             3712,
-            Duration(i as u64),
+            Duration(u64::from(i)),
             Instant(1000),
         );
-        i += 1;
     }
-    i
+    15
 }
 
 // The sixteenth has room and a seventeenth has not; what stands is renewed all the same; and one from the middle cancelled.

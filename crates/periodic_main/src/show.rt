@@ -1,9 +1,8 @@
 // What is asked of the table, and the answer.
 use lines::Line;
-use periodic::{Registered, Subscriptions};
+use periodic::Subscriptions;
 use std::io;
 use uds::clock::{Duration, Instant};
-use uds::table::Found;
 
 // The number of an entry, and what it holds.
 pub(crate) fn entry(rt: &HostRuntime, subs: &Subscriptions, i: usize) -> io::Result<()> {
@@ -11,8 +10,8 @@ pub(crate) fn entry(rt: &HostRuntime, subs: &Subscriptions, i: usize) -> io::Res
     Line::new()
         .number(i as u64)
         .text(b":")
-        .number(e.identifier as u64)
-        .number(e.client as u64)
+        .number(u64::from(e.identifier))
+        .number(u64::from(e.client))
         .number(e.interval.0)
         .number(e.next.0)
         .print(rt)?;
@@ -32,18 +31,11 @@ pub(crate) fn register(
 ) -> io::Result<u8> {
     let line = Line::new().text(what);
     let span = Duration(interval);
-    let Registered::Stands(n) = periodic::register(
-        subs,
-        count,
-        identifier,
-        client,
-        span,
-        Instant(t),
-    ) else {
+    let Some(n) = periodic::register(subs, count, identifier, client, span, Instant(t)) else {
         line.text(b" full").print(rt)?;
         return Ok(count);
     };
-    line.number(n as u64).print(rt)?;
+    line.number(u64::from(n)).print(rt)?;
     Ok(n)
 }
 
@@ -57,7 +49,7 @@ pub(crate) fn cancel(
     client: u32,
 ) -> io::Result<u8> {
     let left = periodic::cancel(subs, count, identifier, client);
-    Line::new().text(what).number(left as u64).print(rt)?;
+    Line::new().text(what).number(u64::from(left)).print(rt)?;
     Ok(left)
 }
 
@@ -71,7 +63,7 @@ pub(crate) fn find(
     client: u32,
 ) -> io::Result<()> {
     let line = Line::new().text(what);
-    let Found::At(i) = periodic::find(subs, count, identifier, client) else {
+    let Some(i) = periodic::find(subs, count, identifier, client) else {
         line.text(b" -").print(rt)?;
         return Ok(());
     };

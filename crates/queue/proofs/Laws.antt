@@ -9,13 +9,15 @@ use Rattle.model.specs.Numbers.{max_frame}
 use Rattle.model.specs.Frame.{Frame, positive_frame, negative_frame}
 use Rattle.model.specs.State.{AddressMode, physical}
 use Rattle.model.specs.Queue.{withheld, leaves, pushed, refused, confirmed, sent}
-use Rattle.queue.specs.View.{queue_of, step_of, Pushes}
-use Rattle.queue.specs.declared.reply.Pushed.{Pushed}
-use Rattle.queue.proofs.Room.{Stands, draft_length}
+use Rattle.std.specs.Prelude.{Result}
+use Rattle.uds.specs.Result.{result_of}
+use Rattle.uds.specs.declared.result.Refusal.{Refusal}
+use Rattle.queue.specs.View.{queue_of, Pushes}
+use Rattle.queue.proofs.Room.{Stands, draft_length, stands, leads, push_free, push-full}
 
 -- a frame that stands in the free place, pushed
-pub queues : {count to n : ℕ} {bytes heads heads' room room' : List ℕ} {r : Pushed} → Stands count bytes n room room' → Pushes count to n heads r heads'
-    → step_of r heads' room' ≡ pushed (queue_of count heads room) to bytes
+pub queues : {count to n count' : ℕ} {bytes heads heads' room room' : List ℕ} {r : Result (Unit {0}) Refusal} → Stands count bytes n room room' → Pushes count to n heads r count' heads'
+    → record { result = result_of r; queue = queue_of count' heads' room' } ≡ pushed (queue_of count heads room) to bytes
 queues {to = to} {heads = h} {room' = m} s p = p.step m ∙ ap₂ (λ (q : List Frame) (b : List ℕ). pushed q to b) (s.unseen h) s.there
 
 -- a physical request hears every code
@@ -49,5 +51,11 @@ module _ (mode : AddressMode) (q : List Frame) (to sid : ℕ) where
   unfolding refused
   refused-said code e = rw e
 
--- a frame with a byte before a draft is as long as that says
-pub ruleset drafted_frames = (sent-long, draft_length)
+-- the ways out of `push`, of `refuse`, of `send` and of `confirm`
+pub ruleset pushes = (push_free, push-full)
+
+pub ruleset refusals = (refused-silent, refused-said, unwithheld)
+
+pub ruleset sends = (queues, leads, sent-short, sent-long, draft_length)
+
+pub ruleset confirms = (confirmed-short, confirmed-long, draft_length)

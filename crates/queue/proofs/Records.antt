@@ -1,13 +1,14 @@
 -- Laws of a drain: which queues are valid, how long their records are, and that records written one after the other are all of them.
 use Prim.Native.Nat.{ℕ, zero, suc, ◌+◌, ◌*◌, ◌-◌, ◌≤◌, ◌<◌}
-use mathlib.Core.Path.{◌≡◌, refl, ap, sym, ◌∙◌}
-use mathlib.Core.Bool.{Bool, true, false, ◌&&◌}
+use mathlib.Core.Path.{◌≡◌, ap, sym, ◌∙◌}
+use mathlib.Core.Bool.{Bool, true, false}
 use mathlib.Core.List.{List, ◌++◌}
 use native.Mathlib.Omega.{arith}
 use native.Mathlib.Decide.{dec_le}
 use lib.ListN.{length, take, drop, length-append}
 use lib.Dec.{leb}
 use borrow.Author.Tests.{le-leb, lt-leb, leb-true}
+use Rattle.std.proofs.lemmas.Bool.{and_parts}
 use Rattle.model.specs.Tests.{all}
 use Rattle.model.specs.Numbers.{max_frame, max_outbox}
 use Rattle.model.specs.Config.{table_within}
@@ -35,20 +36,21 @@ module _ (heads room : List ℕ) (z : length room ≡ room_size) (i : ℕ) (h : 
   pub frame-length : length (frame_at heads room i).bytes ≡ head_at heads (2 * i + 1)
   frame-length = bytes-length room (max_frame * i) (head_at heads (2 * i + 1)) (omega arith)
 
-  pub frame-part : (len : ℕ) → len ≡ head_at heads (2 * i + 1) → len ≤ max_frame → take (max_frame * i + len - max_frame * i) (drop (max_frame * i) room) ≡ (frame_at heads room i).bytes
-  frame-part len e g =
-      let k : max_frame * i + len - max_frame * i ≡ len = omega arith in
-      rw (k, ← e) (sym (plain room (max_frame * i) len g))
-
   pub frame_empty : head_at heads (2 * i + 1) ≡ 0 → frame_valid max_frame (frame_at heads room i) ≡ false
   frame_empty e = rw (lt-leb 1 (length (frame_at heads room i).bytes) (omega (arith, frame-length)))
 
   pub frame-long : max_frame < head_at heads (2 * i + 1) → frame_valid max_frame (frame_at heads room i) ≡ false
   frame-long e = rw (le-leb 1 (length (frame_at heads room i).bytes) (omega (arith, frame-length)), lt-leb (length (frame_at heads room i).bytes) max_frame (omega (arith, frame-length)))
 
-  pub frame_right : (head_at heads (2 * i + 1) ≡ 0 → ⊥) → head_at heads (2 * i + 1) ≤ max_frame → frame_valid max_frame (frame_at heads room i) ≡ true
+  pub frame_right : 1 ≤ head_at heads (2 * i + 1) → head_at heads (2 * i + 1) ≤ max_frame → frame_valid max_frame (frame_at heads room i) ≡ true
   frame_right e g =
       rw (le-leb 1 (length (frame_at heads room i).bytes) (omega (arith, frame-length)), le-leb (length (frame_at heads room i).bytes) max_frame (omega (arith, frame-length)))
+
+-- the part of the room where it stands
+pub frame-part : (heads room : List ℕ) (i len : ℕ) → len ≡ head_at heads (2 * i + 1) → len ≤ max_frame → take (max_frame * i + len - max_frame * i) (drop (max_frame * i) room) ≡ (frame_at heads room i).bytes
+frame-part heads room i len e g =
+    let k : max_frame * i + len - max_frame * i ≡ len = omega arith in
+    rw (k, ← e) (sym (plain room (max_frame * i) len g))
 
 -- a table of at most so many is valid where each row is
 abbrev valid : List Frame → Bool
@@ -64,26 +66,19 @@ module _ (n : ℕ) (heads room : List ℕ) where
 -- a valid queue's frames stand in their places
 each_of : {B : Type 0} (p : B → Bool) (f : ℕ → B) (k n : ℕ) → all p (tab f k n) ≡ true → (i : ℕ) → k ≤ i → i < k + n → p (f i) ≡ true
 each_of p f k zero e i a b = absurd (omega arith)
-each_of p f k (suc n) e i a b = go (dec_le (suc k) i) (p (f k)) refl e (λ r d. each_of p f (suc k) n r i d (omega arith))
-  where
-    go : Dec (suc k ≤ i) → (t : Bool) → p (f k) ≡ t → (t && all p (tab f (suc k) n)) ≡ true → (all p (tab f (suc k) n) ≡ true → suc k ≤ i → p (f i) ≡ true) → p (f i) ≡ true
-    go d false w e ih = let z : ◌≡◌ {A = Bool} false true = e in cc
-    go (yes d) true w e ih = ih e d
-    go (no d) true w e ih = let z : i ≡ k = omega arith in rw (z, w)
-
-both : (s t : Bool) → (s && t) ≡ true → (s ≡ true) × (t ≡ true)
-both true t e = (refl, e)
-both false t e = let z : ◌≡◌ {A = Bool} false true = e in (cc, cc)
+each_of p f k (suc n) e i a b =
+    let w = and_parts (p (f k)) (all p (tab f (suc k) n)) e in
+    elim (dec_le (suc k) i) [ yes d ↦ each_of p f (suc k) n w.1 i d (omega arith) | no d ↦ (let z : i ≡ k = omega arith in rw z w.0) ]
 
 pub framed : (n : ℕ) (heads room : List ℕ) → length room ≡ room_size → true ≡ valid (queue_of n heads room) → Framed n heads
 framed n heads room z e =
-    let w = both (leb (length (queue_of n heads room)) max_outbox) (all (frame_valid max_frame) (queue_of n heads room)) (sym e) in
+    let w = and_parts (leb (length (queue_of n heads room)) max_outbox) (all (frame_valid max_frame) (queue_of n heads room)) (sym e) in
     let few : n ≤ max_outbox = omega (arith, leb-true (length (queue_of n heads room)) max_outbox w.0, tab-length (frame_at heads room) 0 n) in
     record {
       few = few;
       each = λ i h.
           let b = (frame_at heads room i).bytes in
-          let v = both (leb 1 (length b)) (leb (length b) max_frame) (each_of (frame_valid max_frame) (frame_at heads room) 0 n w.1 i (omega arith) (omega arith)) in
+          let v = and_parts (leb 1 (length b)) (leb (length b) max_frame) (each_of (frame_valid max_frame) (frame_at heads room) 0 n w.1 i (omega arith) (omega arith)) in
           omega (arith, leb-true (length b) max_frame v.1, frame-length heads room z i (omega arith));
     }
 
@@ -108,9 +103,6 @@ module _ (f : ℕ → Frame) (n i : ℕ) (h : i < n) where
       ∙ inv
 
 -- nothing is left
-pub nothing_left : (f : ℕ → Frame) (n i : ℕ) → n ≤ i → length (records (tab f i (n - i))) ≡ 0
-nothing_left f n i h = rw (tab-end f n i h)
-
 pub all-written : (f : ℕ → Frame) (n i at : ℕ) (out whole : List ℕ) → n ≤ i → over out at (records (tab f i (n - i))) ≡ whole → out ≡ whole
 all-written f n i at out whole h inv = sym (over_nothing out at) ∙ sym (rw (tab-end f n i h)) ∙ inv
 
@@ -131,3 +123,6 @@ module _ (count : ℕ) (heads room buffer : List ℕ) where
     drain-written after h w =
         let k : 0 + length (records (queue_of count heads room)) ≡ length (records (queue_of count heads room)) = omega arith in
         rw (← g, e, le-leb (length (records (queue_of count heads room))) (length buffer) h, tab-length (frame_at heads room) 0 count, w, k)
+
+-- the ways out of `drain`, and that a valid queue's frames stand in their places
+pub ruleset drains = (framed, drain_invalid, drain-over, drain-written)

@@ -11,11 +11,12 @@ use Rattle.model.specs.Numbers.{max_frame, max_outbox}
 use Rattle.model.specs.Frame.{Frame}
 use Rattle.model.specs.Service22.{going}
 use Rattle.uds.proofs.Tab.{tab-same, tab_snoc, tab-length}
-use Rattle.queue.specs.declared.draft.Drafted.TheVariants.{Going, TooLong}
+use Rattle.std.specs.Prelude.{Some, None}
 use Rattle.queue.specs.Over.{over}
 use Rattle.model.specs.Queue.{leaves, pushed}
 use Rattle.queue.specs.View.{room_size, heads_size, head_at, bytes_at, frame_at, queue_of, place_of, draft_of, Unseen, Drafts}
-use Rattle.queue.proofs.Over.{part, over-length, over_below, over_from, over-above}
+use Rattle.std.proofs.lemmas.List.{drop-take}
+use Rattle.queue.proofs.Over.{over-length, over_below, over_from, over-above}
 
 abbrev pub frame : ℕ → List ℕ → Frame
 frame dst bytes = record { dst = dst; bytes = bytes }
@@ -32,7 +33,7 @@ bytes-length room at n h =
 -- rooms that agree below a place show the same bytes there
 agree : (l m : List ℕ) (a n k : ℕ) → k ≤ length l → k ≤ length m → a + max_frame ≤ k → take k l ≡ take k m → bytes_at l a n ≡ bytes_at m a n
 agree l m a n k p q h e =
-    ap (λ (x : List ℕ). x ++ replicate (n - max_frame) 0) (sym (part l a b (omega arith)) ∙ ap (drop a) (sym (below l) ∙ ap (take (a + b)) e ∙ below m) ∙ part m a b (omega arith))
+    ap (λ (x : List ℕ). x ++ replicate (n - max_frame) 0) (sym (drop-take a b l) ∙ ap (drop a) (sym (below l) ∙ ap (take (a + b)) e ∙ below m) ∙ drop-take a b m)
   where
     b : ℕ
     b = min n max_frame
@@ -58,12 +59,12 @@ pub record Stands (count : ℕ) (bytes : List ℕ) (n : ℕ) (before after : Lis
 
 module _ (count at : ℕ) (room after : List ℕ) (z : length room ≡ room_size) (p : at ≡ place_of count) where
   -- bytes put in the free place stand there
-  pub stands : (bytes : List ℕ) (n : ℕ) → length bytes ≡ n → n ≤ max_frame → after ≡ over room at bytes → Stands count bytes n room after
-  stands bytes n l h e =
-      let f : 0 + length bytes ≡ n = omega arith in
+  pub stands : (bytes : List ℕ) → length bytes ≤ max_frame → after ≡ over room at bytes → Stands count bytes (length bytes) room after
+  stands bytes h e =
+      let f : 0 + length bytes ≡ length bytes = omega arith in
       rw (e, p)
       (record {
-        there = plain (over room (place_of count) bytes) (place_of count) n h ∙ rw f at (over_from room (place_of count) bytes (omega arith) (place_of count) 0 (omega arith));
+        there = plain (over room (place_of count) bytes) (place_of count) (length bytes) h ∙ rw f at (over_from room (place_of count) bytes (omega arith) (place_of count) 0 (omega arith));
         unseen = unseen count room (place_of count) bytes z (omega arith) (omega arith);
       })
 
@@ -88,22 +89,23 @@ draft_length count len room z = bytes-length room (place_of count + 1) len (omeg
 
 -- bytes appended to it
 module _ (count len : ℕ) (room bytes : List ℕ) (z : length room ≡ room_size) where
-  pub too_long : max_frame < len + length bytes → Drafts count len bytes room TooLong room
+  pub too_long : max_frame < len + length bytes → Drafts count len bytes room None room
   too_long h = record { reading = rw (lt-leb (length (draft_of count len room) + length bytes) max_frame (omega (arith, draft_length count len room z))); unseen = λ heads. refl }
 
-  pub grows : (at : ℕ) (after : List ℕ) → at ≡ place_of count + 1 + len → len + length bytes ≤ max_frame → after ≡ over room at bytes → Drafts count len bytes room (Going (len + length bytes)) after
-  grows at after p h e =
-      let o : List ℕ = over room at bytes in
-      let k : at + length bytes ≤ length room = omega arith in
-      rw e
+  pub grows : (n at : ℕ) (after : List ℕ) → n ≡ len + length bytes → n ≤ max_frame → at ≡ place_of count → after ≡ over room (at + 1 + len) bytes → Drafts count len bytes room (Some n) after
+  grows n at after s h p e =
+      let o : List ℕ = over room (at + 1 + len) bytes in
+      let q : at + 1 + len ≡ place_of count + 1 + len = omega arith in
+      let k : at + 1 + len + length bytes ≤ length room = omega arith in
+      rw (e, s)
       (record {
         reading =
             rw (le-leb (length (draft_of count len room) + length bytes) max_frame (omega (arith, draft_length count len room z)))
             (ap going
-            (plain o (place_of count + 1) (len + length bytes) h
-            ∙ over_from room at bytes k (place_of count + 1) len p
+            (plain o (place_of count + 1) (len + length bytes) (omega arith)
+            ∙ over_from room (at + 1 + len) bytes k (place_of count + 1) len q
             ∙ ap (λ (x : List ℕ). x ++ bytes) (sym (plain room (place_of count + 1) len (omega arith)))));
-        unseen = unseen count room at bytes z (omega arith) (omega arith);
+        unseen = unseen count room (at + 1 + len) bytes z (omega arith) (omega arith);
       })
 
 -- one more frame

@@ -1,4 +1,5 @@
 -- From the count, the heads and the room to the definition's queue, and from the program's answers to what they mean.
+use Rattle.std.specs.Prelude.{Option as Maybe, Some, None, Result}
 use Rattle.std.specs.Prelude.{ℕ, ◌+◌, ◌*◌, ◌-◌, ◌≤◌, ◌<◌, min, ◌≡◌, Bool, List, ◌++◌, take, drop, get_or, replicate}
 use Rattle.model.specs.Tests.{pick}
 use Rattle.model.specs.Numbers.{max_frame, max_outbox}
@@ -7,11 +8,11 @@ use Rattle.model.specs.State.{AddressMode, physical, functional}
 use Rattle.model.specs.Queue as Definition
 use Rattle.model.specs.Queue.{QueueStep, QueueDrain, pushed}
 use Rattle.model.specs.Service22.{Reading, going, ended, appended}
+use Rattle.uds.specs.Result.{result_of}
 use Rattle.uds.specs.Table.{tab}
-use Rattle.queue.specs.declared.draft.Drafted.{Drafted}
-use Rattle.queue.specs.declared.draft.Drafted.TheVariants.{Going, TooLong}
+use Rattle.uds.specs.declared.result.Refusal.{Refusal}
 use Rattle.queue.specs.declared.drain.Drained.{Drained}
-use Rattle.queue.specs.declared.reply.Pushed.{Pushed}
+use Rattle.queue.specs.declared.reply.Outbox.{Outbox}
 use Rattle.queue.specs.declared.reply.Reply.{Reply}
 use Rattle.queue.specs.declared.reply.Reply.TheVariants.{Silent, Positive, Negative, Always, Pends}
 
@@ -38,6 +39,10 @@ frame_at heads room i = record { dst = head_at heads (2 * i); bytes = bytes_at r
 abbrev pub queue_of : ℕ → List ℕ → List ℕ → List Frame
 queue_of count heads room = tab (frame_at heads room) 0 count
 
+-- the queue that an outbox holds
+abbrev pub queue_in : Outbox → List Frame
+queue_in o = queue_of o.count o.heads.now o.room.now
+
 -- where the free place begins
 abbrev pub place_of : ℕ → ℕ
 place_of count = max_frame * min count max_outbox
@@ -57,24 +62,25 @@ reply_of (Negative code) count room = Definition.negative code
 reply_of (Always code) count room = Definition.always code
 reply_of Pends count room = Definition.pends
 
-abbrev pub step_of : Pushed → List ℕ → List ℕ → QueueStep
-step_of p heads room = record { result = p.result; queue = queue_of p.count heads room }
+-- a refusal leaves as many frames as there were
+abbrev pub step_in : Result (Unit {0}) Refusal → Outbox → QueueStep
+step_in r o = record { result = result_of r; queue = queue_in o }
 
 -- a push, of every room: the first `len` bytes of the free place become a frame
-pub record Pushes (count to len : ℕ) (before : List ℕ) (r : Pushed) (after : List ℕ) : Type 0 where
-  pub step : (room : List ℕ) → step_of r after room ≡ pushed (queue_of count before room) to (bytes_at room (place_of count) len)
+pub record Pushes (count to len : ℕ) (before : List ℕ) (r : Result (Unit {0}) Refusal) (count' : ℕ) (after : List ℕ) : Type 0 where
+  pub step : (room : List ℕ) → record { result = result_of r; queue = queue_of count' after room } ≡ pushed (queue_of count before room) to (bytes_at room (place_of count) len)
 
 -- the visible queue is as it was, whatever its heads
 abbrev pub Unseen : ℕ → List ℕ → List ℕ → Type 0
 Unseen count before after = (heads : List ℕ) → queue_of count heads after ≡ queue_of count heads before
 
--- what appending to a reply in the making answers
-abbrev pub reading_of : Drafted → ℕ → List ℕ → Reading
-reading_of (Going len) count room = going (draft_of count len room)
-reading_of TooLong count room = ended (Definition.negative 0x14)
+-- what appending to a reply in the making answers: how many bytes it has, or none where it would be too long
+abbrev pub reading_of : Maybe ℕ → ℕ → List ℕ → Reading
+reading_of (Some len) count room = going (draft_of count len room)
+reading_of None count room = ended (Definition.negative 0x14)
 
 -- bytes appended to a reply in the making, which nothing shows yet
-pub record Drafts (count len : ℕ) (bytes before : List ℕ) (r : Drafted) (after : List ℕ) : Type 0 where
+pub record Drafts (count len : ℕ) (bytes before : List ℕ) (r : Maybe ℕ) (after : List ℕ) : Type 0 where
   pub reading : reading_of r count after ≡ appended max_frame (draft_of count len before) bytes
   pub unseen : Unseen count before after
 

@@ -7,42 +7,31 @@ use super::Room;
 use super::reply::Reply;
 use uds::nrc::Nrc;
 
-// How many bytes the reply in the making has, or that it would be too long.
-#[derive(Clone, Copy)]
-pub enum Drafted {
-    Going(usize),
-    TooLong,
-}
-
-// Bytes appended to a reply in the making of `len` bytes, which may hold 256.
-pub fn extend(room: &mut Room, count: u8, len: usize, bytes: &[u8]) -> Drafted
+// Bytes appended to a reply in the making of `len` bytes, which may hold 256: how many it has then, or None where it would be too long.
+pub fn extend(room: &mut Room, count: u8, len: usize, bytes: &[u8]) -> Option<usize>
     ensures { Drafts count len bytes.now room.old result room.new }
 {
-    super::size(room);
-    if super::MAX_FRAME < len {
-        return Drafted::TooLong;
+    let longer = len.saturating_add(bytes.len());
+    if super::MAX_FRAME < longer {
+        return None;
     }
-    if super::MAX_FRAME - len < bytes.len() {
-        return Drafted::TooLong;
-    }
-    let at = super::place(count) + 1 + len;
-    super::write(room, at, bytes);
-    Drafted::Going(len + bytes.len())
+    super::write(room, super::place(count) + 1 + len, bytes);
+    Some(longer)
 }
 
 // One byte appended.
-pub fn put(room: &mut Room, count: u8, len: usize, b: u8) -> Drafted
+pub fn put(room: &mut Room, count: u8, len: usize, b: u8) -> Option<usize>
     ensures { Drafts count len (b ∷ []) room.old result room.new }
 {
     extend(room, count, len, &[b])
 }
 
 // What is said with it: the reply that was made, or 0x14. The promise is for every count and room.
-pub fn said(drafted: Drafted) -> Reply
+pub fn said(drafted: Option<usize>) -> Reply
     ensures { (count : ℕ) (room : List ℕ) → reply_of result count room ≡ read_reply (reading_of drafted count room) }
 {
     match drafted {
-        Drafted::Going(len) => Reply::Positive(len),
-        Drafted::TooLong => Reply::Negative(Nrc::RESPONSE_TOO_LONG),
+        Some(len) => Reply::Positive(len),
+        None => Reply::Negative(Nrc::RESPONSE_TOO_LONG),
     }
 }

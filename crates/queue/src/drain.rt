@@ -9,9 +9,9 @@ ghost use Rattle.queue.specs.Over.{over};
 ghost use Rattle.queue.specs.View.{room_size, Framed, head_at, queue_of, drain_of};
 
 use super::{Heads, Room};
-use uds::result;
+use uds::result::{DONE, Refusal};
 
-// The result, how many frames were written, and how many wait then.
+// The result, how many frames were written, and how many wait then. It goes to C, so it holds a number and no Result.
 #[repr(C)]
 #[derive(Clone, Copy)]
 pub struct Drained {
@@ -33,7 +33,7 @@ fn frame_length(heads: &Heads, i: usize) -> usize
     requires { i < 16 }
     ensures { result ≡ head_at heads.now (2 * i + 1) }
 {
-    super::wide(head_word(heads, 2 * i + 1))
+    head_word(heads, 2 * i + 1) as usize
 }
 
 // At most sixteen frames are counted, and each has 1 to 256 bytes. The promise is for every room.
@@ -43,17 +43,11 @@ fn heads_valid(count: u8, heads: &Heads) -> bool
     if super::OUTBOX < count {
         return false;
     }
-    let n = count as usize;
-    let mut i = 0;
-    while i < n {
+    for i in 0..usize::from(count) {
         let len = frame_length(heads, i);
-        if len == 0 {
+        if len == 0 || super::MAX_FRAME < len {
             return false;
         }
-        if super::MAX_FRAME < len {
-            return false;
-        }
-        i += 1;
     }
     true
 }
@@ -62,7 +56,6 @@ fn heads_valid(count: u8, heads: &Heads) -> bool
 pub fn frames_valid(count: u8, heads: &Heads, room: &Room) -> bool
     ensures { result ≡ table_within max_outbox (frame_valid max_frame) (queue_of count heads.now room.now) }
 {
-    super::size(room);
     heads_valid(count, heads)
 }
 
@@ -72,10 +65,8 @@ fn records_length(n: usize, heads: &Heads) -> usize
     ensures { (room : List ℕ) → length room ≡ room_size → result ≡ length (records (queue_of n heads.now room)) }
 {
     let mut total = 0;
-    let mut i = 0;
-    while i < n {
+    for i in 0..n {
         total += 8 + frame_length(heads, i);
-        i += 1;
     }
     total
 }
@@ -85,20 +76,15 @@ fn header(to: u32, len: usize) -> [u8; 8]
     requires { len ≤ 256 }
     ensures { result ≡ u16 (4 + len) ++ (u16 1 ++ u32 to) }
 {
-    let rest = 4 + len;
-    [
-        (rest % 256) as u8,
-        (rest / 256 % 256) as u8,
-        1,
-        0,
-        (to % 256) as u8,
-        (to / 256 % 256) as u8,
-        (to / 65536 % 256) as u8,
-        (to / 16777216 % 256) as u8,
-    ]
+    let mut head = [0; 8];
+    head[..2].copy_from_slice(&((4 + len) as u16).to_le_bytes());
+    head[2..4].copy_from_slice(&1u16.to_le_bytes());
+    head[4..].copy_from_slice(&to.to_le_bytes());
+    head
 }
 
 // One record, written from `at` on; the place after it.
+#[tactic(auto, using(crate::proofs::Records::record_written))]
 fn write_record(out: &mut [u8], at: usize, to: u32, frame: &[u8]) -> usize
     requires { (length frame.now ≤ 256) × (at + (8 + length frame.now) ≤ length out.old) }
     ensures { (out.new ≡ over out.old at (record1 (record { dst = to; bytes = frame.now }))) × (result ≡ at + (8 + length frame.now)) }
@@ -116,39 +102,37 @@ fn write_records(n: usize, heads: &Heads, room: &[u8], out: &mut [u8])
     ensures { out.new ≡ over out.old 0 (records (queue_of n heads.now room.now)) }
 {
     let mut at = 0;
-    let mut i = 0;
-    while i < n {
+    for i in 0..n {
         let start = super::MAX_FRAME * i;
         let end = start + frame_length(heads, i);
         at = write_record(out, at, head_word(heads, 2 * i), &room[start..end]);
-        i += 1;
     }
 }
 
 // The records, with the rest of the buffer as it was, and no frame waits then. Else nothing changes: 10 where the queue is not valid,
 // 5 where the records exceed the buffer.
+#[tactic(auto, using(crate::proofs::Records::drains))]
 pub fn drain(count: u8, heads: &Heads, room: &Room, out: &mut [u8]) -> Drained
     ensures { drain_of result heads.now room.now out.new ≡ drained max_frame (queue_of count heads.now room.now) out.old }
 {
-    super::size(room);
     if !heads_valid(count, heads) {
         return Drained {
-            result: result::STATE_NOT_VALID,
+            result: Refusal::StateNotValid as u8,
             frames: 0,
             count,
         };
     }
-    let n = count as usize;
+    let n = usize::from(count);
     if out.len() < records_length(n, heads) {
         return Drained {
-            result: result::BUFFER_TOO_SHORT,
+            result: Refusal::BufferTooShort as u8,
             frames: 0,
             count,
         };
     }
     write_records(n, heads, room, out);
     Drained {
-        result: result::DONE,
+        result: DONE,
         frames: count,
         count: 0,
     }

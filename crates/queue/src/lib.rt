@@ -10,7 +10,7 @@ pub mod drain;
 pub mod reply;
 
 // Sixteen places of 256 bytes; a seventeenth, in which a reply is made where all sixteen are taken; and one byte more, since a
-// reading may hold 256 bytes after the first byte of its place before it is refused.
+// reading may hold 256 bytes after the first byte of its place before it is refused. It is bytes, and the heads are words, because C lends them.
 pub type Room = [u8; 4353];
 
 // The destination and the length of each frame that waits.
@@ -24,40 +24,14 @@ const OUTBOX: u8 = 16;
 fn place(count: u8) -> usize
     ensures { result ≡ place_of count }
 {
-    if count < OUTBOX {
-        return MAX_FRAME * (count as usize);
-    }
-    MAX_FRAME * (OUTBOX as usize)
+    MAX_FRAME * usize::from(count.min(OUTBOX))
 }
 
 // Bytes put over a buffer from a place on.
+#[tactic(auto, unfolding(crate::specs::Over::over))]
 fn write(buffer: &mut [u8], at: usize, bytes: &[u8])
     requires { at + length bytes.now ≤ length buffer.old }
     ensures { buffer.new ≡ over buffer.old at bytes.now }
 {
-    let mut k = 0;
-    while k < bytes.len() {
-        buffer[at + k] = bytes[k];
-        k += 1;
-    }
-}
-
-// How many bytes and words are lent: an array tells its length to the proof only where it is lent as a slice.
-fn size(room: &[u8]) -> usize
-    ensures { result ≡ length room.now }
-{
-    room.len()
-}
-
-fn words(heads: &[u32]) -> usize
-    ensures { result ≡ length heads.now }
-{
-    heads.len()
-}
-
-// A word as a number of bytes.
-fn wide(word: u32) -> usize
-    ensures { result ≡ word }
-{
-    word as usize
+    buffer[at..at + bytes.len()].copy_from_slice(bytes);
 }

@@ -5,13 +5,37 @@
 ghost use Rattle.std.specs.Prelude.{◌≡◌};
 ghost use Rattle.model.specs.Numbers.{max_frame};
 ghost use Rattle.model.specs.Queue.{refused, confirmed, drained};
-ghost use Rattle.queue.specs.View.{queue_of, mode_of, step_of, drain_of};
+ghost use Rattle.uds.specs.Result.{result_of};
+ghost use Rattle.queue.specs.View.{queue_of, mode_of, drain_of};
+ghost use Rattle.queue_bench.specs.View.{step_of};
 
 use queue::drain::Drained;
-use queue::reply::Pushed;
+use queue::reply::{Asker, Outbox};
 use queue::{Heads, Room};
+use uds::result::{Refusal, number};
+
+// The result, and how many frames wait then. It goes to C, so it holds a number and no Result.
+#[repr(C)]
+#[derive(Clone, Copy)]
+pub struct Pushed {
+    pub result: u8,
+    pub count: u8,
+}
+
+impl Pushed {
+    // What an outbox answered, and how many frames wait in it then.
+    fn of(done: Result<(), Refusal>, count: u8) -> Pushed
+        ensures { (result.result ≡ result_of done) × (result.count ≡ count) }
+    {
+        Pushed {
+            result: number(done),
+            count,
+        }
+    }
+}
 
 // A positive reply, made and queued as a service does it: the payload is put where it will wait, then it is said and answered.
+#[tactic(auto, using(crate::proofs::Made::makes))]
 #[unsafe(no_mangle)]
 pub extern "C" fn bench_confirm(
     count: u8,
@@ -26,7 +50,14 @@ pub extern "C" fn bench_confirm(
 {
     let drafted = queue::draft::extend(room, count, 0, payload);
     let reply = queue::draft::said(drafted);
-    queue::reply::answer(count, heads, room, functional, to, sid, reply)
+    let asker = Asker {
+        functional,
+        to,
+        sid,
+    };
+    let mut outbox = Outbox { count, heads, room };
+    let done = outbox.answer(asker, reply);
+    Pushed::of(done, outbox.count)
 }
 
 // A negative frame under the rule of functional requests.
@@ -42,7 +73,14 @@ pub extern "C" fn bench_refuse(
 ) -> Pushed
     ensures { step_of result heads.new room.new ≡ refused (mode_of functional) (queue_of count heads.old room.old) to sid code }
 {
-    queue::reply::refuse(count, heads, room, functional, to, sid, code)
+    let asker = Asker {
+        functional,
+        to,
+        sid,
+    };
+    let mut outbox = Outbox { count, heads, room };
+    let done = outbox.refuse(asker, code);
+    Pushed::of(done, outbox.count)
 }
 
 // The waiting frames as records in the lent buffer.

@@ -1,7 +1,7 @@
 -- The two lists of levels, refused keys and locks, are alike: rows of a level and a number, one search and one entry. Each law is said of both.
 use Prim.Native.Nat.{ℕ, ◌+◌, ◌*◌, ◌≤◌, ◌<◌, min}
 use mathlib.Core.Path.{◌≡◌, refl, ap, ap₂, sym, ◌∙◌}
-use mathlib.Core.Bool.{Bool, true, false, false≢true}
+use mathlib.Core.Bool.{Bool, true, false, ◌&&◌, false≢true}
 use mathlib.Core.List.{List}
 use mathlib.Core.Option.{Option, some, none, map, none-ne-some}
 use native.Mathlib.Decide.{dec_le}
@@ -15,12 +15,11 @@ use Rattle.model.specs.Numbers.{Moment, max_levels}
 use Rattle.model.specs.State.{Security, with_failed, with_locks, lock_valid, security_valid}
 use Rattle.model.specs.Service27.{is_failed, is_lock, holds, count_of, forget, raise, relock}
 use Rattle.uds.specs.Table.{tab, is_key, place_of}
-use Rattle.uds.specs.declared.table.Found.{Found}
-use Rattle.uds.specs.declared.table.Found.TheVariants.{At, Nothing}
+use Rattle.std.specs.Prelude.{Option as Maybe, Some, None}
 use Rattle.uds.proofs.Tab.{finds, place_same, tab-length}
 use Rattle.uds.proofs.Tables.{any_some, change_none, change_at, enter-new, enter-full, passing}
 use Rattle.security.specs.View.{seed_at, row_at, failed_at, lock_at, security_of, placed, number_at, listed, counted, locked_until, Puts, Enters, Resets}
-use Rattle.security.proofs.Words.{word-here, word_same, row_here, rows, failed_pair, lock_pair, seed-same, only_failed, only_locks}
+use Rattle.security.proofs.Words.{word-here, word_same, rows, failed_pair, lock_pair, seed-same, only_failed, only_locks}
 
 -- what a place in a list tells: the count is a list's, and the row stands in it
 module _ (w : List ℕ) (counter from level : ℕ) where
@@ -40,38 +39,21 @@ module _ (w : List ℕ) (counter from level : ℕ) where
   inside i e = (passing (is_key level) (row_at w from) 0 n i (sym (among (keeps i e)) ∙ e)).below
 
   -- what a search answers of it
-  module _ (r : Found) (e : place_of r ≡ placed w counter from level) where
-    pub found_at : (i : ℕ) → r ≡ At i → placed w counter from level ≡ some i
+  module _ (r : Maybe ℕ) (e : place_of r ≡ placed w counter from level) where
+    pub found_at : (i : ℕ) → r ≡ Some i → placed w counter from level ≡ some i
     found_at i h = sym e ∙ ap place_of h
 
-    pub found_below : (i : ℕ) → r ≡ At i → i < 8
-    found_below i h = omega (arith, keeps i (found_at i h), inside i (found_at i h))
-
-    pub found_none : r ≡ Nothing → placed w counter from level ≡ none
+    pub found_none : r ≡ None → placed w counter from level ≡ none
     found_none h = sym e ∙ ap place_of h
 
-    -- the number beside the level
-    pub number_at_lem : (i : ℕ) → r ≡ At i → get_or w (from + 2 * i + 1) 0 ≡ number_at w from (placed w counter from level)
-    number_at_lem i h = sym (row_here w (from + 1) i (from + 2 * i + 1) (found_below i h) (omega arith)) ∙ ap (number_at w from) (sym (found_at i h))
-
-    pub number-none : r ≡ Nothing → 0 ≡ number_at w from (placed w counter from level)
-    number-none h = ap (number_at w from) (sym (found_none h))
-
     -- a number put where the search says
-    pub put-again : (i number : ℕ) → r ≡ At i → length w ≡ 68 → Puts w counter from level number true (set w (from + 2 * i + 1) number)
+    pub put-again : (i number : ℕ) → r ≡ Some i → length w ≡ 68 → Puts w counter from level number true (set w (from + 2 * i + 1) number)
     put-again i number h l = record {
       again = λ j z. let s : j ≡ i = cc in (refl, rw s);
       first = λ z q. absurd (none-ne-some i (sym z ∙ found_at i h));
       full = λ z q. absurd (none-ne-some i (sym z ∙ found_at i h));
       words = l;
     }
-
-    module _ (number : ℕ) (h : r ≡ Nothing) (l : length w ≡ 68) where
-      pub put_first : n < 8 → Puts w counter from level number true (set (set (set w (from + 2 * n) level) (from + 2 * n + 1) number) counter (n + 1))
-      put_first q = record { again = λ j z. absurd (none-ne-some j (sym (found_none h) ∙ z)); first = λ z s. (refl, refl); full = λ z s. absurd (omega arith); words = l }
-
-      pub put_nowhere : 8 ≤ n → Puts w counter from level number false w
-      put_nowhere q = record { again = λ j z. absurd (none-ne-some j (sym (found_none h) ∙ z)); first = λ z s. absurd (omega arith); full = λ z s. (refl, refl); words = l }
 
   -- a number, or what is said of the level's row: the same of both lists
   module _ {B : Type 0} (pair : ℕ → ℕ → B) (p : B → Bool) (same : (x y : ℕ) → p (pair x y) ≡ eqb x level) where
@@ -83,8 +65,8 @@ module _ (w : List ℕ) (counter from level : ℕ) where
     says say num z s = elim (dec_le n 8) [ yes k ↦ known k | no k ↦ unknown (omega arith) ]
       where
         go : (o : Option ℕ) → place (is_key level) keys ≡ o → num (number_at w from o) ≡ say (first p (tab row 0 n))
-        go (some i) e = sym (s (row_at w from i) (row_at w (from + 1) i)) ∙ ap say (finds p row (is_key level) (row_at w from) n n (At i) (λ j. same (row_at w from j) (row_at w (from + 1) j)) refl (sym e)).row
-        go none e = sym z ∙ ap say (finds p row (is_key level) (row_at w from) n n Nothing (λ j. same (row_at w from j) (row_at w (from + 1) j)) refl (sym e)).row
+        go (some i) e = sym (s (row_at w from i) (row_at w (from + 1) i)) ∙ ap say (finds p row (is_key level) (row_at w from) n n (Some i) (λ j. same (row_at w from j) (row_at w (from + 1) j)) refl (sym e)).row
+        go none e = sym z ∙ ap say (finds p row (is_key level) (row_at w from) n n None (λ j. same (row_at w from j) (row_at w (from + 1) j)) refl (sym e)).row
 
         known : n ≤ 8 → num (number_at w from (placed w counter from level)) ≡ listed (tab row 0 n) (say (first p (tab row 0 n))) (say none)
         known k = rw (tab-length row 0 n, le-leb n 8 k) (go (place (is_key level) keys) refl)
@@ -260,11 +242,11 @@ locks b a level until r h =
     apart j x y = elsewhere lock_pair (is_lock level) b a 3 52 level until r h (omega arith) (omega arith) (omega arith) j x (λ i p q. omega arith)
 
 -- a count set to 0, if the level has one
-module _ (b : List ℕ) (level : ℕ) (r : Found) (e : place_of r ≡ placed b 2 36 level) where
+module _ (b : List ℕ) (level : ℕ) (r : Maybe ℕ) (e : place_of r ≡ placed b 2 36 level) where
   abbrev many_failed : ℕ
   many_failed = get_or b 2 0
 
-  pub reset-none : r ≡ Nothing → Resets b level b
+  pub reset-none : r ≡ None → Resets b level b
   reset-none h = record { state = rw (tab-length (failed_at b) 0 many_failed) (elim (dec_le many_failed 8) [ yes k ↦ rw (le-leb many_failed 8 k) (kept k) | no k ↦ rw (lt-leb many_failed 8 (omega arith)) ]); seed = λ i. refl }
     where
       kept : many_failed ≤ 8 → security_of b ≡ with_failed (security_of b) (change_first (is_failed level) forget (security_of b).failed)
@@ -272,7 +254,7 @@ module _ (b : List ℕ) (level : ℕ) (r : Found) (e : place_of r ≡ placed b 2
           ap (with_failed (security_of b))
           (sym (change_none (is_failed level) forget (security_of b).failed (place_same (is_failed level) (is_key level) (failed_at b) (row_at b 36) 0 many_failed (λ i. refl) ∙ sym (among b 2 36 level k) ∙ found_none b 2 36 level r e h)))
 
-  module _ (i : ℕ) (h : r ≡ At i) (l : length b ≡ 68) where
+  module _ (i : ℕ) (h : r ≡ Some i) (l : length b ≡ 68) where
     abbrev zeroed : List ℕ
     zeroed = set b (36 + 2 * i + 1) 0
 
@@ -289,22 +271,7 @@ module _ (b : List ℕ) (level : ℕ) (r : Found) (e : place_of r ≡ placed b 2
       seed = seed_by_count b zeroed level 0 true put;
     }
 
--- words that keep their numbers, and the three that do not
-module _ (w : List ℕ) where
-  pub valid_by_locks : get_or w 0 0 ≤ 32 → get_or w 2 0 ≤ 8 → get_or w 3 0 ≤ 8 → all lock_valid (tab (lock_at w) 0 (get_or w 3 0)) ≡ security_valid (security_of w)
-  unfolding security_valid
-  valid_by_locks a b d =
-      rw (tab-length (seed_at w) 0 (get_or w 0 0), tab-length (failed_at w) 0 (get_or w 2 0), tab-length (lock_at w) 0 (get_or w 3 0), le-leb (get_or w 0 0) 32 a, le-leb (get_or w 2 0) 8 b, le-leb (get_or w 3 0) 8 d)
-
-  pub seed_invalid : 32 < get_or w 0 0 → false ≡ security_valid (security_of w)
-  unfolding security_valid
-  seed_invalid h = rw (tab-length (seed_at w) 0 (get_or w 0 0), lt-leb (get_or w 0 0) 32 h)
-
-  pub failed_invalid : get_or w 0 0 ≤ 32 → 8 < get_or w 2 0 → false ≡ security_valid (security_of w)
-  unfolding security_valid
-  failed_invalid a h = rw (tab-length (seed_at w) 0 (get_or w 0 0), tab-length (failed_at w) 0 (get_or w 2 0), le-leb (get_or w 0 0) 32 a, lt-leb (get_or w 2 0) 8 h)
-
-  pub locks_invalid : get_or w 0 0 ≤ 32 → get_or w 2 0 ≤ 8 → 8 < get_or w 3 0 → false ≡ security_valid (security_of w)
-  unfolding security_valid
-  locks_invalid a b h =
-      rw (tab-length (seed_at w) 0 (get_or w 0 0), tab-length (failed_at w) 0 (get_or w 2 0), tab-length (lock_at w) 0 (get_or w 3 0), le-leb (get_or w 0 0) 32 a, le-leb (get_or w 2 0) 8 b, lt-leb (get_or w 3 0) 8 h)
+-- words that keep their numbers
+pub valid_by : (w : List ℕ) → security_valid (security_of w) ≡ leb (get_or w 0 0) 32 && leb (get_or w 2 0) 8 && (leb (get_or w 3 0) 8 && all lock_valid (tab (lock_at w) 0 (get_or w 3 0)))
+unfolding security_valid
+valid_by w = rw (tab-length (seed_at w) 0 (get_or w 0 0), tab-length (failed_at w) 0 (get_or w 2 0), tab-length (lock_at w) 0 (get_or w 3 0))

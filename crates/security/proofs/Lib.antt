@@ -1,4 +1,5 @@
 pub mod Words
+pub mod Ranges
 pub mod Levels
 pub mod Storing
 pub mod Uses

@@ -1,32 +1,18 @@
--- A seed put into the words: its bytes, then its length and its level. A seed that is cleared is one of no bytes.
+-- A seed put into the words: its bytes, then its length and its level.
 use Prim.Native.Nat.{ℕ, ◌+◌, ◌≤◌, ◌<◌}
 use mathlib.Core.Path.{◌≡◌, refl, sym, ◌∙◌}
-use mathlib.Core.Bool.{Bool, true, false, false≢true}
 use mathlib.Core.List.{List, []}
 use native.Mathlib.Omega.{arith}
 use native.Mathlib.Decide.{dec_le}
 use lib.ListN.{length, get_or, set, length-set, get_or-eq_default}
 use lib.Seq.{get_or-set_same, get_or-set_other}
-use borrow.Author.Tests.{le-leb, lt-leb}
+use borrow.Author.Tests.{le-leb}
 use Rattle.model.specs.Numbers.{max_seed}
 use Rattle.model.specs.Service27.{seeded}
 use Rattle.uds.specs.Table.{tab}
 use Rattle.uds.proofs.Tab.{tab_list}
-use Rattle.security.specs.View.{seed_at, failed_at, lock_at, security_of, Fills, Clears, Seeds, ClearsIf}
+use Rattle.security.specs.View.{seed_at, failed_at, lock_at, security_of, Fills, Clears, Seeds}
 use Rattle.security.proofs.Words.{word-here, word-past, failed_pair, lock_pair, list_same}
-
-pub filled_none : (w bytes : List ℕ) (from : ℕ) → Fills w bytes from from w
-filled_none w bytes from = record { put = λ j p q. absurd (omega arith); below = λ j p. refl; above = λ j p. refl }
-
-pub filled_more : (b a bytes : List ℕ) (from i x : ℕ) → Fills b bytes from i a → from ≤ i → i < 32 → length a ≡ 68 → x ≡ get_or bytes i 0 → Fills b bytes from (i + 1) (set a (4 + i) x)
-filled_more b a bytes from i x h f p l e = record {
-  put = λ j s q. elim (dec_le i j) [ yes k ↦ here j (omega arith) | no k ↦ get_or-set_other a (4 + i) (4 + j) x 0 (λ z. k (omega arith)) ∙ h.put j s (omega arith) ];
-  below = λ j q. get_or-set_other a (4 + i) j x 0 (λ z. omega arith) ∙ h.below j q;
-  above = λ j q. get_or-set_other a (4 + i) j x 0 (λ z. omega arith) ∙ h.above j (omega arith);
-}
-  where
-    here : (j : ℕ) → j ≡ i → get_or (set a (4 + i) x) (4 + j) 0 ≡ get_or bytes j 0
-    here j z = rw z (get_or-set_same a (4 + i) x 0 (omega arith) ∙ e)
 
 -- a seed's bytes put, those after them overwritten, then length and level
 module _ (b a d bytes : List ℕ) (level : ℕ) (f : Fills b bytes 0 (length bytes) a) (g : Fills a [] (length bytes) max_seed d) (fits : length bytes ≤ 32) (l : length d ≡ 68) where
@@ -76,15 +62,9 @@ module _ (b a d bytes : List ℕ) (level : ℕ) (f : Fills b bytes 0 (length byt
   pub seed-held : Seeds b level bytes left
   seed-held = record { state = rw (le-leb (length bytes) 32 fits) stored; overwritten = λ i. rw (le-leb (length bytes) 32 fits) (stored_bytes i) }
 
+-- a seed that is cleared is one of no bytes
 pub cleared-all : (b d : List ℕ) → Fills b [] 0 max_seed d → length d ≡ 68 → Clears b (set (set d 0 0) 1 0)
-cleared-all b d g l = record { state = stored b b d [] 0 (filled_none b [] 0) g (omega arith) l; overwritten = stored_bytes b b d [] 0 (filled_none b [] 0) g (omega arith) l }
-
-pub seed-long : (b d : List ℕ) (level : ℕ) (bytes : List ℕ) → Clears b d → 32 < length bytes → Seeds b level bytes d
-seed-long b d level bytes c h = record { state = rw (lt-leb (length bytes) 32 h) c.state; overwritten = λ i. rw (lt-leb (length bytes) 32 h) (c.overwritten i) }
-
--- cleared where that is wanted
-pub settled_cleared : (b a : List ℕ) (clears : Bool) → clears ≡ true → Clears b a → ClearsIf b clears a
-settled_cleared b a clears e h = record { state = rw e h.state; overwritten = λ z. h.overwritten; kept = λ z. absurd (false≢true (sym z ∙ e)) }
-
-pub settled_kept : (b : List ℕ) (clears : Bool) → clears ≡ false → ClearsIf b clears b
-settled_kept b clears e = record { state = rw e; overwritten = λ z. absurd (false≢true (sym e ∙ z)); kept = λ z. refl }
+cleared-all b d g l = record { state = stored b b d [] 0 none g (omega arith) l; overwritten = stored_bytes b b d [] 0 none g (omega arith) l }
+  where
+    none : Fills b [] 0 0 b
+    none = record { put = λ j p q. absurd (omega arith); below = λ j p. refl; above = λ j p. refl }

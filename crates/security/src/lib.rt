@@ -4,7 +4,7 @@
 // in the crate `model`.
 #![tactic(auto)]
 
-ghost use Rattle.std.specs.Prelude.{◌≡◌, ◌+◌, ◌≤◌, ◌<◌, min, false, [], length};
+ghost use Rattle.std.specs.Prelude.{◌≡◌, ◌+◌, ◌≤◌, ◌<◌, min, false, [], length, IfSome};
 ghost use Rattle.model.specs.Tests.{all};
 ghost use Rattle.model.specs.Numbers.{max_seed};
 ghost use Rattle.model.specs.State as Model;
@@ -13,29 +13,21 @@ ghost use Rattle.uds.specs.Table.{tab, place_of};
 ghost use Rattle.security.specs.View.{lock_at, security_of, placed, number_at, listed, counted, locked_until, Puts, Enters, Resets, Fills, Clears, Seeds, ClearsIf};
 
 use uds::clock::Instant;
-use uds::table::Found;
 
+// Words, and no struct of fields: it is memory of a fixed size that C lends.
 pub type Security = [u64; 68];
 
 const SEED_LENGTH: usize = 0;
 
 const SEED_LEVEL: usize = 1;
 
-const COUNTS: usize = 2;
-
-const LOCKS: usize = 3;
-
 const FIRST_BYTE: usize = 4;
-
-const FIRST_COUNT: usize = 36;
-
-const FIRST_LOCK: usize = 52;
 
 const MAX_SEED: usize = 32;
 
 const MAX_LEVELS: u64 = 8;
 
-#[derive(Clone, Copy)]
+#[derive(Clone, Copy, PartialEq, Eq)]
 pub struct SecurityState {
     pub words: Security,
 }
@@ -49,119 +41,102 @@ impl SecurityState {
     }
 }
 
-// How many words are lent: an array tells its length to the proof only where it is lent as a slice.
-fn size(words: &[u64]) -> usize
-    ensures { result ≡ length words.now }
-{
-    words.len()
+// A list of levels, the counts or the locks: the word that counts its rows, and where the first row begins.
+#[derive(Clone, Copy)]
+struct List {
+    counter: usize,
+    from: usize,
 }
 
-// A byte as a word.
-fn wide(b: u8) -> u64
-    ensures { result ≡ b }
-{
-    b as u64
-}
+const COUNTS: List = List {
+    counter: 2,
+    from: 36,
+};
 
-// Where a level stands in a list, the counts or the locks. A count above eight is no list's: nothing is found under it.
-fn find_level(k: &Security, counter: usize, from: usize, level: u8) -> Found
-    requires { (counter < 4) × (from ≤ 52) }
-    ensures { place_of result ≡ placed k.now counter from level }
-{
-    let rows = k[counter];
-    if MAX_LEVELS < rows {
-        return Found::Nothing;
-    }
-    let key = level as u64;
-    let n = rows as usize;
-    let mut i: usize = 0;
-    while i < n {
-        if k[from + 2 * i] == key {
-            return Found::At(i);
+const LOCKS: List = List {
+    counter: 3,
+    from: 52,
+};
+
+impl List {
+    // Where a level stands in the list. A count above eight is no list's: nothing is found under it.
+    fn find(self, k: &Security, level: u8) -> Option<usize>
+        requires { (self.counter < 4) × (self.from ≤ 52) }
+        ensures place { place_of result ≡ placed k.now self.counter self.from level }
+        ensures row { IfSome result (λ i. i < 8) }
+    {
+        let rows = k[self.counter];
+        if MAX_LEVELS < rows {
+            return None;
         }
-        i += 1;
+        (0..rows as usize).find(|&i| k[self.from + 2 * i] == u64::from(level))
     }
-    Found::Nothing
-}
 
-// The level's number in a list: 0 where it has none.
-fn number(k: &Security, counter: usize, from: usize, level: u8) -> u64
-    requires { (counter < 4) × (from ≤ 52) }
-    ensures { result ≡ number_at k.now from (placed k.now counter from level) }
-{
-    let Found::At(i) = find_level(k, counter, from, level) else {
-        return 0;
-    };
-    k[from + 2 * i + 1]
-}
+    // The level's number in the list: 0 where it has none.
+    fn number(self, k: &Security, level: u8) -> u64
+        requires { (self.counter < 4) × (self.from ≤ 52) }
+        ensures { result ≡ number_at k.now self.from (placed k.now self.counter self.from level) }
+    {
+        self.find(k, level).map_or(0, |i| k[self.from + 2 * i + 1])
+    }
 
-// A number entered into a list, in the level's row or in a new one: false where there is no room for that.
-fn enter(k: &mut Security, counter: usize, from: usize, level: u8, number: u64) -> bool
-    requires { (counter < 4) × (from ≤ 52) }
-    ensures { Puts k.old counter from level number result k.new }
-{
-    let words = size(k);
-    if let Found::At(i) = find_level(k, counter, from, level) {
-        k[from + 2 * i + 1] = number;
-        return true;
+    // A number entered into the list, in the level's row or in a new one: false where there is no room for that. It answers a `bool`, as
+    // a set's `insert` does, since whether there was room is all that there is to tell.
+    fn enter(self, k: &mut Security, level: u8, number: u64) -> bool
+        requires { (self.counter < 4) × (self.from ≤ 52) }
+        ensures { Puts k.old self.counter self.from level number result k.new }
+    {
+        if let Some(i) = self.find(k, level) {
+            k[self.from + 2 * i + 1] = number;
+            return true;
+        }
+        let rows = k[self.counter];
+        if MAX_LEVELS <= rows {
+            return false;
+        }
+        let at = self.from + 2 * (rows as usize);
+        k[at] = u64::from(level);
+        k[at + 1] = number;
+        k[self.counter] = rows + 1;
+        true
     }
-    let rows = k[counter];
-    if MAX_LEVELS <= rows {
-        return false;
-    }
-    let at = from + 2 * (rows as usize);
-    k[at] = level as u64;
-    k[at + 1] = number;
-    k[counter] = rows + 1;
-    true
 }
 
 // Locked means that now is before the lock's end; a level without a lock is locked until 0, and so never.
 pub fn is_locked(k: &Security, level: u8, t: Instant) -> bool
     ensures { result ≡ listed (security_of k.now).locks (Rules.locked (security_of k.now) level t.0) false }
 {
-    t.is_before(Instant(number(k, LOCKS, FIRST_LOCK, level)))
+    t.is_before(Instant(LOCKS.number(k, level)))
 }
 
 // How many keys of the level were refused: none where it has no count.
 pub fn failed_count(k: &Security, level: u8) -> u64
     ensures { result ≡ listed (security_of k.now).failed (Rules.failed_count level (security_of k.now).failed) 0 }
 {
-    number(k, COUNTS, FIRST_COUNT, level)
+    COUNTS.number(k, level)
 }
 
-// A count goes up to 255.
-fn raised(count: u64) -> u64
-    ensures { result ≡ min (count + 1) 255 }
-{
-    if 255 <= count {
-        return 255;
-    }
-    count + 1
-}
-
-// One more refused key of the level, if the list has room.
+// One more refused key of the level, if the list has room. A count goes up to 255.
 pub fn increment(k: &mut Security, level: u8) -> bool
     ensures { Enters k.old (counted (security_of k.old) level) result k.new }
 {
-    let count = raised(number(k, COUNTS, FIRST_COUNT, level));
-    enter(k, COUNTS, FIRST_COUNT, level, count)
+    let count = COUNTS.number(k, level).saturating_add(1).min(255);
+    COUNTS.enter(k, level, count)
 }
 
 // Locked until a moment, if the list has room.
 pub fn lock(k: &mut Security, level: u8, until: Instant) -> bool
     ensures { Enters k.old (locked_until (security_of k.old) level until.0) result k.new }
 {
-    enter(k, LOCKS, FIRST_LOCK, level, until.0)
+    LOCKS.enter(k, level, until.0)
 }
 
 // No refused key is counted any more; a level that has no count gets none.
 pub fn reset(k: &mut Security, level: u8)
     ensures { Resets k.old level k.new }
 {
-    let words = size(k);
-    if let Found::At(i) = find_level(k, COUNTS, FIRST_COUNT, level) {
-        k[FIRST_COUNT + 2 * i + 1] = 0;
+    if let Some(i) = COUNTS.find(k, level) {
+        k[COUNTS.from + 2 * i + 1] = 0;
     }
 }
 
@@ -169,7 +144,7 @@ pub fn reset(k: &mut Security, level: u8)
 pub fn awaits(k: &Security, level: u8) -> bool
     ensures { result ≡ Rules.awaits (security_of k.now) level }
 {
-    k[SEED_LEVEL] == level as u64 && 1 <= k[SEED_LENGTH]
+    k[SEED_LEVEL] == u64::from(level) && 1 <= k[SEED_LENGTH]
 }
 
 // The bytes of a seed put in their places.
@@ -177,12 +152,8 @@ fn fill(k: &mut Security, bytes: &[u8])
     requires { length bytes.now ≤ 32 }
     ensures { Fills k.old bytes.now 0 (length bytes.now) k.new }
 {
-    let words = size(k);
-    let n = bytes.len();
-    let mut i: usize = 0;
-    while i < n {
-        k[FIRST_BYTE + i] = wide(bytes[i]);
-        i += 1;
+    for (i, b) in bytes.iter().enumerate() {
+        k[FIRST_BYTE + i] = u64::from(*b);
     }
 }
 
@@ -191,12 +162,7 @@ fn wipe(k: &mut Security, n: usize)
     requires { n ≤ 32 }
     ensures { Fills k.old [] n max_seed k.new }
 {
-    let words = size(k);
-    let mut i = n;
-    while i < MAX_SEED {
-        k[FIRST_BYTE + i] = 0;
-        i += 1;
-    }
+    k[FIRST_BYTE + n..FIRST_BYTE + MAX_SEED].fill(0);
 }
 
 // No seed awaits its key, and no byte of it is left.
@@ -204,7 +170,6 @@ pub fn clear(k: &mut Security)
     ensures { Clears k.old k.new }
 {
     wipe(k, 0);
-    let words = size(k);
     k[SEED_LENGTH] = 0;
     k[SEED_LEVEL] = 0;
 }
@@ -229,9 +194,8 @@ pub fn seed(k: &mut Security, level: u8, bytes: &[u8])
     }
     fill(k, bytes);
     wipe(k, n);
-    let words = size(k);
     k[SEED_LENGTH] = n as u64;
-    k[SEED_LEVEL] = level as u64;
+    k[SEED_LEVEL] = u64::from(level);
 }
 
 // No lock ends later than the last moment that a state may hold.
@@ -239,30 +203,15 @@ fn locks_valid(k: &Security, n: usize) -> bool
     requires { n ≤ 8 }
     ensures { result ≡ all Model.lock_valid (tab (lock_at k.now) 0 n) }
 {
-    let mut i: usize = 0;
-    while i < n {
-        let until = Instant(k[FIRST_LOCK + 2 * i + 1]);
-        if !until.is_valid() {
-            return false;
-        }
-        i += 1;
-    }
-    true
+    (0..n).all(|i| Instant(k[LOCKS.from + 2 * i + 1]).is_valid())
 }
 
 // Lengths and moments keep their numbers.
 pub fn is_valid(k: &Security) -> bool
     ensures { result ≡ Model.security_valid (security_of k.now) }
 {
-    if 32 < k[SEED_LENGTH] {
-        return false;
-    }
-    if MAX_LEVELS < k[COUNTS] {
-        return false;
-    }
-    let n = k[LOCKS];
-    if MAX_LEVELS < n {
-        return false;
-    }
-    locks_valid(k, n as usize)
+    k[SEED_LENGTH] <= MAX_SEED as u64
+        && k[COUNTS.counter] <= MAX_LEVELS
+        && k[LOCKS.counter] <= MAX_LEVELS
+        && locks_valid(k, k[LOCKS.counter] as usize)
 }

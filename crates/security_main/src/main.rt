@@ -12,16 +12,13 @@ use uds::clock::Instant;
 
 // No seed, no count, no lock.
 fn fresh() -> Security {
-    let k = SecurityState::new();
-    k.words
+    SecurityState::new().words
 }
 
 // So many keys of a level refused.
 fn refused(k: &mut Security, level: u8, times: u16) {
-    let mut i: u16 = 0;
-    while i < times {
+    for _ in 0..times {
         security::increment(k, level);
-        i += 1;
     }
 }
 
@@ -56,9 +53,7 @@ fn counted(rt: &HostRuntime) -> io::Result<()> {
 // Levels 1 to n, each refused once and locked until 900.
 fn filled(n: u8) -> Security {
     let mut k = fresh();
-    let mut level: u8 = 0;
-    while level < n {
-        level += 1;
+    for level in 1..=n {
         security::increment(&mut k, level);
         security::lock(&mut k, level, Instant(900));
     }
@@ -96,22 +91,15 @@ fn locked(rt: &HostRuntime) -> io::Result<()> {
 
 // The 32 bytes that may hold a seed.
 fn bytes(k: &Security) -> [u8; 32] {
-    let mut all = [0u8; 32];
-    let mut i: usize = 0;
-    while i < 32 {
-        all[i] = (k[4 + i] % 256) as u8;
-        i += 1;
-    }
-    all
+    std::array::from_fn(|i| (k[4 + i] % 256) as u8)
 }
 
 fn seed(rt: &HostRuntime, what: &[u8], k: &Security) -> io::Result<()> {
-    let all = bytes(k);
     Line::new()
         .text(what)
         .number(k[1])
         .number(k[0])
-        .hex(&all)
+        .hex(&bytes(k))
         .print(rt)?;
     Ok(())
 }

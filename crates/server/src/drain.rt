@@ -6,6 +6,7 @@ ghost use Rattle.server.specs.View.{server_of, drained_of};
 
 use super::fresh::Server;
 
+// The server comes back whatever the result is, so no Result holds it; the number is the lent door's.
 #[repr(C)]
 #[derive(Clone, Copy)]
 pub struct ServerDrained {
@@ -27,11 +28,11 @@ impl Server {
             &self.room,
             out,
         );
-        let state = d.state;
-        let mut server = self;
-        server.state = state;
         ServerDrained {
-            server,
+            server: Server {
+                state: d.state,
+                ..self
+            },
             result: d.result,
             frames: d.frames,
         }

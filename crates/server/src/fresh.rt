@@ -9,7 +9,7 @@ use periodic::Subscriptions;
 use queue::{Heads, Room};
 use security::{Security, SecurityState};
 use state::State;
-use uds::result::{CONFIGURATION, DONE};
+use uds::result::{DONE, Refusal};
 
 #[repr(C)]
 #[derive(Clone, Copy)]
@@ -22,6 +22,7 @@ pub struct Server {
     pub room: Room,
 }
 
+// A server comes whatever the result is, so no Result holds it.
 #[repr(C)]
 #[derive(Clone, Copy)]
 pub struct Fresh {
@@ -33,8 +34,7 @@ pub struct Fresh {
 fn empty_handed(config: Config) -> Server
     ensures { server_of result ≡ Model.fresh_state (config_of config) }
 {
-    let fresh = SecurityState::new();
-    let security = fresh.words;
+    let security = SecurityState::new().words;
     Server {
         config,
         security,
@@ -58,7 +58,7 @@ impl Server {
         }
         Fresh {
             server: empty_handed(config::build::new(0, 0)),
-            result: CONFIGURATION,
+            result: Refusal::Configuration as u8,
         }
     }
 }

@@ -7,6 +7,7 @@ ghost use Rattle.server.specs.View.{server_of, step_of};
 use super::fresh::Server;
 use uds::clock::Instant;
 
+// The server comes back whatever the result is, so no Result holds it; the number is the lent door's.
 #[repr(C)]
 #[derive(Clone, Copy)]
 pub struct ServerAnswer {
@@ -18,31 +19,21 @@ impl Server {
     pub fn complete(self, t: Instant, payload: &[u8]) -> ServerAnswer
         ensures { step_of result ≡ Model.complete max_frame (server_of self) t.0 payload.now }
     {
-        let config = self.config;
-        let security = self.security;
-        let subscriptions = self.subscriptions;
-        let mut heads = self.heads;
-        let mut room = self.room;
+        let mut server = self;
+        let own = &mut server;
         let r = calls::pending::complete(
-            &config,
-            self.state,
-            &security,
-            &subscriptions,
-            &mut heads,
-            &mut room,
+            &own.config,
+            own.state,
+            &own.security,
+            &own.subscriptions,
+            &mut own.heads,
+            &mut own.room,
             t,
             payload,
         );
-        let state = r.state;
+        server.state = r.state;
         ServerAnswer {
-            server: Server {
-                config,
-                security,
-                subscriptions,
-                state,
-                heads,
-                room,
-            },
+            server,
             result: r.result,
         }
     }
@@ -50,31 +41,21 @@ impl Server {
     pub fn fail(self, t: Instant, code: u8) -> ServerAnswer
         ensures { step_of result ≡ Model.fail max_frame (server_of self) t.0 code }
     {
-        let config = self.config;
-        let security = self.security;
-        let subscriptions = self.subscriptions;
-        let mut heads = self.heads;
-        let mut room = self.room;
+        let mut server = self;
+        let own = &mut server;
         let r = calls::pending::fail(
-            &config,
-            self.state,
-            &security,
-            &subscriptions,
-            &mut heads,
-            &mut room,
+            &own.config,
+            own.state,
+            &own.security,
+            &own.subscriptions,
+            &mut own.heads,
+            &mut own.room,
             t,
             code,
         );
-        let state = r.state;
+        server.state = r.state;
         ServerAnswer {
-            server: Server {
-                config,
-                security,
-                subscriptions,
-                state,
-                heads,
-                room,
-            },
+            server,
             result: r.result,
         }
     }

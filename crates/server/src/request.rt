@@ -12,6 +12,7 @@ use calls::question::Asked;
 use service::Act;
 use uds::clock::Instant;
 
+// The server comes back whatever the result is, so no Result holds it; the number is the lent door's.
 #[repr(C)]
 #[derive(Clone, Copy)]
 pub struct ServerAnswered {
@@ -34,18 +35,15 @@ impl Server {
     ) -> ServerAnswered
         ensures { answered_of result ≡ Request.request max_frame (server_of self) (request_of t.0 src dst frame.now err given.now values.now pool.now) }
     {
-        let config = self.config;
-        let mut security = self.security;
-        let mut subscriptions = self.subscriptions;
-        let mut heads = self.heads;
-        let mut room = self.room;
+        let mut server = self;
+        let own = &mut server;
         let r = calls::request::request(
-            &config,
-            self.state,
-            &mut security,
-            &mut subscriptions,
-            &mut heads,
-            &mut room,
+            &own.config,
+            own.state,
+            &mut own.security,
+            &mut own.subscriptions,
+            &mut own.heads,
+            &mut own.room,
             t,
             src,
             dst,
@@ -55,19 +53,11 @@ impl Server {
             values,
             pool,
         );
-        let state = r.state;
-        let act = r.act;
+        server.state = r.state;
         ServerAnswered {
-            server: Server {
-                config,
-                security,
-                subscriptions,
-                state,
-                heads,
-                room,
-            },
+            server,
             result: r.result,
-            act,
+            act: r.act,
         }
     }
 

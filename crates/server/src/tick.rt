@@ -8,6 +8,7 @@ ghost use Rattle.server.specs.View.{server_of, ticked_of};
 use super::fresh::Server;
 use uds::clock::Instant;
 
+// The server comes back whatever the result is, so no Result holds it; the numbers are the lent door's.
 #[repr(C)]
 #[derive(Clone, Copy)]
 pub struct ServerTicked {
@@ -20,32 +21,22 @@ impl Server {
     pub fn tick(self, t: Instant, values: &[u32], pool: &[u8]) -> ServerTicked
         ensures { ticked_of result ≡ Model.tick max_frame (server_of self) t.0 (table_of values.now pool.now) }
     {
-        let config = self.config;
-        let mut security = self.security;
-        let mut subscriptions = self.subscriptions;
-        let mut heads = self.heads;
-        let mut room = self.room;
+        let mut server = self;
+        let own = &mut server;
         let r = calls::tick::tick(
-            &config,
-            self.state,
-            &mut security,
-            &mut subscriptions,
-            &mut heads,
-            &mut room,
+            &own.config,
+            own.state,
+            &mut own.security,
+            &mut own.subscriptions,
+            &mut own.heads,
+            &mut own.room,
             t,
             values,
             pool,
         );
-        let state = r.state;
+        server.state = r.state;
         ServerTicked {
-            server: Server {
-                config,
-                security,
-                subscriptions,
-                state,
-                heads,
-                room,
-            },
+            server,
             result: r.result,
             err: r.err,
         }

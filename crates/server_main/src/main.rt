@@ -7,41 +7,47 @@ mod requests;
 mod show;
 
 use config::{Config, build};
+use queue::reply::Outbox;
 use queue::{Heads, Room};
 use server::fresh::Server;
-use state::State;
+use state::{SessionState, State};
 use std::io;
 use uds::clock::Instant;
 use uds::rows::SessionConfig;
 
 fn sessions(n: u8) -> Config {
     let mut c = build::new(16, 2015);
-    let mut i: u8 = 0;
-    while i < n {
+    for _ in 0..n {
         let next = build::with_session(c, SessionConfig::default_session());
         c = next;
-        i += 1;
     }
     c
 }
 
-// A negative frame for each of two testers.
+// A negative frame for each of two testers. Neither is refused, since fewer than sixteen wait.
 fn waiting(heads: &mut Heads, room: &mut Room) -> State {
-    let first = queue::reply::negative(0, heads, room, 3712, 0x22, 0x31);
-    let second = queue::reply::negative(first.count, heads, room, 3713, 0x10, 0x12);
-    let mut s = State::new();
-    s.frames = second.count;
-    s
+    let mut outbox = Outbox {
+        count: 0,
+        heads,
+        room,
+    };
+    outbox.negative(3712, 0x22, 0x31).ok();
+    outbox.negative(3713, 0x10, 0x12).ok();
+    State {
+        frames: outbox.count,
+        ..State::new()
+    }
 }
 
 // The same state, with a last request that no state may hold.
 fn not_valid(s: State) -> State {
-    let moment = Instant(Instant::MAX_MOMENT + 1);
-    let mut session = s.session;
-    session.last_rx = moment;
-    let mut next = s;
-    next.session = session;
-    next
+    State {
+        session: SessionState {
+            last_rx: Instant(Instant::MAX_MOMENT + 1),
+            ..s.session
+        },
+        ..s
+    }
 }
 
 // A buffer that is a byte short, one that is exactly full, what is left then, and a longer buffer; and 10, which comes before 5.

@@ -72,10 +72,10 @@ fn ask(
     let act = a.act;
     let line = Line::new()
         .text(what)
-        .number(a.result as u64)
-        .number(session.session_type as u64)
-        .number(session.level as u64)
-        .number(act.number as u64);
+        .number(u64::from(a.result))
+        .number(u64::from(session.session_type))
+        .number(u64::from(session.level))
+        .number(u64::from(act.number));
     let mut out = [0u8; 64];
     let d = drain(c, left, k, subs, heads, room, &mut out);
     let next = d.state;
@@ -83,7 +83,7 @@ fn ask(
         line.print(rt)?;
         return Ok(next);
     }
-    let rest = uds::frame::byte(&out, 0) as usize;
+    let rest = usize::from(uds::frame::byte(&out, 0));
     line.lower_hex(service::first(&out, 4 + rest)).print(rt)?;
     Ok(next)
 }

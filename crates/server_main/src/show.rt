@@ -15,13 +15,13 @@ pub(crate) fn fresh(rt: &HostRuntime, what: &[u8], c: Config) -> io::Result<Serv
     let session = s.session;
     Line::new()
         .text(what)
-        .number(f.result as u64)
-        .number(config::physical(&config) as u64)
-        .number(config::functional(&config) as u64)
-        .number(session.session_type as u64)
-        .number(session.level as u64)
-        .number(s.subscriptions as u64)
-        .number(s.frames as u64)
+        .number(u64::from(f.result))
+        .number(u64::from(config::physical(&config)))
+        .number(u64::from(config::functional(&config)))
+        .number(u64::from(session.session_type))
+        .number(u64::from(session.level))
+        .number(u64::from(s.subscriptions))
+        .number(u64::from(s.frames))
         .print(rt)?;
     Ok(v)
 }
@@ -37,9 +37,9 @@ fn drained(
 ) -> io::Result<()> {
     Line::new()
         .text(what)
-        .number(res as u64)
-        .number(frames as u64)
-        .number(left as u64)
+        .number(u64::from(res))
+        .number(u64::from(frames))
+        .number(u64::from(left))
         .lower_hex(out)
         .print(rt)?;
     Ok(())

@@ -19,7 +19,7 @@ use Rattle.service.specs.Fitted.{fitted, fitted_effect}
 use Rattle.service.specs.Seen.{in_session, secured, subscribed, says_of, Replies, Serves}
 use Rattle.service.specs.Effects.{Effects, Leaves, Refuses}
 use Rattle.service.specs.declared.Act.{Act}
-use Rattle.service.specs.declared.Ask.TheVariants.{Asks}
+use Rattle.std.specs.Prelude.{Ok}
 use Rattle.service.specs.declared.Wanted.{Wanted}
 
 -- a service with an effect: refused before any act, or with the effect that its act's outcome has
@@ -34,7 +34,7 @@ module _ (f : Seen → Served) (v : Seen) (session level subscriptions frames : 
     kept = λ w. absurd (false≢true (sym (ap (λ (x : Effect). x.waits) h.effect) ∙ w));
   }
 
-  pub serves_acted : (later : Seen → Rules.Effect) (act : Act) (e : Effect) (k' room' : List ℕ) → Asked f later seen (Asks act) → Effects (later seen) v.now k' subs frames room e room' → (e.waits ≡ true → k' ≡ k)
+  pub serves_acted : (later : Seen → Rules.Effect) (act : Act) (e : Effect) (k' room' : List ℕ) → Asked f later seen (Ok act) → Effects (later seen) v.now k' subs frames room e room' → (e.waits ≡ true → k' ≡ k)
       → Serves f seen k subs frames room (record { effect = e; act = act }) k' subs room'
   serves_acted later act e k' room' a h w = record {
     served = ap (fitted max_frame) a.asked ∙ ap (λ (x : Rules.Effect). record { act = act_of act; effect = x }) h.effect;

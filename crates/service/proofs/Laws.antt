@@ -18,14 +18,14 @@ use Rattle.model.specs.Service.{Seen, Served, says, acted, part}
 use Rattle.model.specs.Service22.{Reading, going, ended, appended, read_reply}
 use Rattle.queue.specs.View.{reply_of}
 use Rattle.queue.specs.declared.reply.Reply.{Reply}
-use Rattle.queue.specs.declared.reply.Reply.TheVariants.{Silent, Negative}
+use Rattle.queue.specs.declared.reply.Reply.TheVariants.{Negative}
 use Rattle.state.specs.View.{effect_of}
 use Rattle.state.specs.declared.apply.Effect.{Effect}
 use Rattle.service.specs.Fitted.{fitted_reply, fitted}
-use Rattle.service.specs.Act.{act_of, Asked, outcome_of, acted_reply}
+use Rattle.service.specs.Act.{act_of, Asked, Handed, outcome_of, acted_reply}
 use Rattle.service.specs.Seen.{in_session, secured, subscribed, Replies, Speaks, Serves, says_of}
 use Rattle.service.specs.declared.Act.{Act}
-use Rattle.service.specs.declared.Ask.TheVariants.{Refused, Asks}
+use Rattle.std.specs.Prelude.{Ok, Err}
 use Rattle.service.specs.declared.Spoken.{Spoken}
 use Rattle.service.proofs.Fitted.{exceeds}
 
@@ -43,15 +43,15 @@ module _ (limit err : ℕ) (b : List ℕ) where
   abbrev given : Values.Given
   given = record { err = err; bytes = b }
 
-  pub an_error : (err ≡ 0 → ⊥) → Values.outcome limit given ≡ outcome_of err b
+  pub an_error : (err ≡ 0 → ⊥) → Values.outcome limit given ≡ outcome_of (Err err) b
   unfolding Values.outcome
   an_error e = rw (ne_eqb err 0 e)
 
-  pub too_many : err ≡ 0 → limit < length b → Values.outcome limit given ≡ outcome_of 0x22 b
+  pub too_many : err ≡ 0 → limit < length b → Values.outcome limit given ≡ outcome_of (Err 0x22) b
   unfolding Values.outcome
   too_many e h = rw (eq-eqb err 0 e, lt-leb (length b) limit h)
 
-  pub the_bytes : err ≡ 0 → length b ≤ limit → Values.outcome limit given ≡ outcome_of 0 b
+  pub the_bytes : err ≡ 0 → length b ≤ limit → Values.outcome limit given ≡ outcome_of (Ok tt) b
   unfolding Values.outcome
   the_bytes e h = rw (eq-eqb err 0 e, le-leb (length b) limit h)
 
@@ -93,40 +93,31 @@ module _ (head tail : List ℕ) where
       go false = refl
 
 -- what comes of an act
-module _ (frames : ℕ) (room : List ℕ) (code : ℕ) (suppress : Bool) (p : List ℕ) where
-  fitted-refusal : fitted_reply max_frame (refusal code) ≡ refusal code
+module _ (frames : ℕ) (room : List ℕ) (suppress : Bool) (p : List ℕ) where
+  fitted-refusal : (code : ℕ) → fitted_reply max_frame (refusal code) ≡ refusal code
   unfolding refusal
-  fitted-refusal = go (eqb code 0x78)
+  fitted-refusal code = go (eqb code 0x78)
     where
       go : (b : Bool) → fitted_reply max_frame (pick b Queue.pends (negative code)) ≡ pick b Queue.pends (negative code)
       go true = refl
       go false = refl
 
-  pub acted-error : (r : Reply) → (code ≡ 0 → ⊥) → reply_of r frames room ≡ refusal code → Replies (acted_reply code suppress p) frames room r room
-  acted-error r n e = record { reply = e ∙ sym fitted-refusal ∙ rw (ne_eqb code 0 n); unseen = λ heads. refl }
-
-  pub acted-silent : code ≡ 0 → suppress ≡ true → Replies (acted_reply code suppress p) frames room Silent room
-  acted-silent z e = record { reply = rw (z, e); unseen = λ heads. refl }
-
-  pub acted-said : (r : Reply) (room' : List ℕ) → code ≡ 0 → suppress ≡ false → Replies (positive p) frames room r room' → Replies (acted_reply code suppress p) frames room r room'
-  acted-said r room' z e h = record { reply = h.reply ∙ rw (z, e); unseen = h.unseen }
+  pub acted-error : (code : ℕ) (r : Reply) → reply_of r frames room ≡ refusal code → Replies (acted_reply (Err code) suppress p) frames room r room
+  acted-error code r e = record { reply = e ∙ sym (fitted-refusal code); unseen = λ heads. refl }
 
 -- of an act whose bytes make a payload: all that a service shows of its own is how
-pub acts : (v : Seen) (k : List ℕ → Queue.Reply) (o : Values.Outcome) (code : ℕ) (b : List ℕ) (suppress : Bool) (p : List ℕ) → o ≡ outcome_of code b → k b ≡ pick suppress silent (positive p)
-    → acted v k o ≡ says v (acted_reply code suppress p)
+pub acts : (v : Seen) (k : List ℕ → Queue.Reply) (o : Values.Outcome) (handed : Handed) (b : List ℕ) (suppress : Bool) (p : List ℕ) → o ≡ outcome_of handed b → k b ≡ pick suppress silent (positive p)
+    → acted v k o ≡ says v (acted_reply handed suppress p)
 unfolding acted
-acts v k o code b suppress p e h = rw e (go (eqb code 0))
-  where
-    go : (z : Bool) → acted v k (pick z (Values.bytes b) (Values.error code)) ≡ says v (pick z (pick suppress silent (positive p)) (refusal code))
-    go true = ap (says v) h
-    go false = refl
+acts v k o (Ok done) b suppress p e h = rw e (ap (says v) h)
+acts v k o (Err code) b suppress p e h = rw e
 
 -- a service that may ask an act: refused before it, or answered by its outcome
 module _ (f : Seen → Served) (later : Seen → Rules.Effect) (v : Seen) (frames : ℕ) (room : List ℕ) where
-  pub speaks_refused : (code : ℕ) (none : Act) → Asked f later v (Refused code) → act_of none ≡ Rules.no_act → Speaks f v frames room (record { reply = Negative code; act = none }) room
+  pub speaks_refused : (code : ℕ) (none : Act) → Asked f later v (Err code) → act_of none ≡ Rules.no_act → Speaks f v frames room (record { reply = Negative code; act = none }) room
   speaks_refused code none a e = record { served = ap (fitted max_frame) a.asked ∙ ap (λ (x : Rules.Act). record { act = x; effect = says v (negative code) }) (sym e); unseen = λ heads. refl }
 
-  pub speaks_acted : (act : Act) (should : Queue.Reply) (r : Reply) (room' : List ℕ) → Asked f later v (Asks act) → later v ≡ says v should → Replies should frames room r room'
+  pub speaks_acted : (act : Act) (should : Queue.Reply) (r : Reply) (room' : List ℕ) → Asked f later v (Ok act) → later v ≡ says v should → Replies should frames room r room'
       → Speaks f v frames room (record { reply = r; act = act }) room'
   speaks_acted act should r room' a e h = record {
     served =

@@ -14,11 +14,11 @@ use Rattle.uds.proofs.Settled.{said}
 use Rattle.queue.specs.View.{queue_of, reply_of}
 use Rattle.queue.specs.declared.reply.Reply.{Reply}
 use Rattle.state.specs.View.{effect_of}
-use Rattle.service.specs.Act.{act_of, asked_of, Asked, outcome_of, acted_reply}
+use Rattle.service.specs.Act.{act_of, Ask, asked_of, Asked, outcome_of, acted_reply}
 use Rattle.service.specs.Seen.{Replies, Speaks, Serves}
-use Rattle.service.specs.declared.Ask.{Ask}
-use Rattle.service.specs.declared.Ask.TheVariants.{Refused, Asks}
+use Rattle.std.specs.Prelude.{Ok, Err}
 use Rattle.service.specs.declared.Part.{Part}
+use Rattle.service.specs.declared.Request.{Request}
 use Rattle.service.specs.declared.Spoken.{Spoken}
 use Rattle.service.specs.declared.Wanted.{Wanted}
 use Rattle.service.proofs.Act.none.Reads as none
@@ -27,10 +27,11 @@ use Rattle.service.proofs.acted.Reads as acted
 use Rattle.service.proofs.answered.Reads as answered
 use Rattle.service.proofs.first.Reads as first
 use Rattle.service.proofs.joined.Reads as joined
-use Rattle.service.proofs.outcome.Reads as outcome
+use Rattle.service.proofs.Request.of.Reads as of
+use Rattle.service.proofs.Request.outcome.Reads as outcome
 use Rattle.service.proofs.refusal.Reads as refusal
-use Rattle.service.proofs.refused.Reads as refused
-use Rattle.service.proofs.says.Reads as says
+use Rattle.service.proofs.Request.refused.Reads as refused
+use Rattle.service.proofs.Request.says.Reads as says
 
 -- something to see: a promise that holds whatever is seen is settled by this
 abbrev pub blank : Seen
@@ -38,12 +39,12 @@ blank = record { limit = 0; config = empty_config; session = fresh_session; secu
 
 -- the act that a question is told
 abbrev pub asked_act : Ask → Rules.Act
-asked_act (Refused code) = no_act
-asked_act (Asks a) = act_of a
+asked_act (Err code) = no_act
+asked_act (Ok a) = act_of a
 
 asked-act : (r : Ask) (v : Seen) (e : Rules.Effect) → (asked_of r v e).act ≡ asked_act r
-asked-act (Refused code) v e = λ i. no_act
-asked-act (Asks a) v e = λ i. act_of a
+asked-act (Err code) v e = λ i. no_act
+asked-act (Ok a) v e = λ i. act_of a
 
 pub same_asked : {f : Seen → Served} {later : Seen → Rules.Effect} {v : Seen} {r r' : Ask} → Asked f later v r → Asked f later v r' → asked_act r ≡ asked_act r'
 same_asked {later = later} {v} {r} {r'} p q = sym (asked-act r v (later v)) ∙ ap (λ (a : Served). a.act) (sym p.asked ∙ q.asked) ∙ asked-act r' v (later v)
@@ -90,8 +91,28 @@ part_of_settled κs a x e y f p q = ap made (said p q)
 pub none_settled : (κs : _) (a : _) → Settles (none.Post κs a) (λ x e y f. act_of x ≡ act_of y)
 none_settled κs a x e y f p q = said p q
 
+-- a request, as it is seen
+pub record SameRequest (r r' : Request) : Type 0 where
+  pub lent : (r.config.now ≡ r'.config.now) × (r.payload.now ≡ r'.payload.now)
+  pub numbers : (r.session ≡ r'.session) × (r.level ≡ r'.level) × (r.subscriptions ≡ r'.subscriptions) × (r.frames ≡ r'.frames) × (r.src ≡ r'.src) × (r.t.0 ≡ r'.t.0)
+  pub handed : (r.err ≡ r'.err) × (r.given.now ≡ r'.given.now) × (r.values.now ≡ r'.values.now) × (r.pool.now ≡ r'.pool.now)
+
+pub of_settled : (κs : _) (a : _) → Settles (of.Post κs a) (λ x e y f. SameRequest x y)
+of_settled κs a x e y f p q = record {
+  lent = (said p.0.0 q.0.0, said p.0.1 q.0.1);
+  numbers = (
+    said p.1.0.0 q.1.0.0,
+    said p.1.0.1 q.1.0.1,
+    said p.1.0.2 q.1.0.2,
+    said p.1.0.3 q.1.0.3,
+    said p.1.0.4 q.1.0.4,
+    said p.1.0.5 q.1.0.5,
+  );
+  handed = (said p.1.1.0 q.1.1.0, said p.1.1.1 q.1.1.1, said p.1.1.2 q.1.1.2, said p.1.1.3 q.1.1.3);
+}
+
 -- an outcome: the bytes, or which error
-pub outcome_settled : (κs : _) (a : _) → Settles (outcome.Post κs a) (λ x e y f. outcome_of x a.1.0.now ≡ outcome_of y a.1.0.now)
+pub outcome_settled : (κs : _) (a : _) → Settles (outcome.Post κs a) (λ x e y f. outcome_of x a.0.now.given.now ≡ outcome_of y a.0.now.given.now)
 outcome_settled κs a x e y f p q = sym p ∙ q
 
 pub first_settled : (κs : _) (a : _) → Settles (first.Post κs a) (λ x e y f. x.now ≡ y.now)

@@ -1,7 +1,7 @@
 // What all services share: the act that one may ask and what was handed in for it, a reply with nothing changed, a reply made of two parts.
 #![tactic(auto)]
 
-ghost use Rattle.std.specs.Prelude.{◌≡◌, ℕ, List, ◌++◌, take};
+ghost use Rattle.std.specs.Prelude.{◌≡◌, ℕ, List, [], ◌++◌, take};
 ghost use Rattle.model.specs.Values as Values;
 ghost use Rattle.model.specs.Queue.{positive};
 ghost use Rattle.model.specs.Reply as Rules;
@@ -12,10 +12,11 @@ ghost use Rattle.service.specs.Act.{part_of, act_of, Asked, outcome_of, acted_re
 ghost use Rattle.service.specs.Effects.{Refuses};
 ghost use Rattle.service.specs.Seen.{says_of, Replies, Speaks};
 
+use config::Config;
 use queue::Room;
-use queue::draft::Drafted;
 use queue::reply::Reply;
 use state::apply::Effect;
+use uds::clock::Instant;
 use uds::nrc::Nrc;
 
 // A part of the frame, by start and length: 0 and 0 when it is empty.
@@ -39,7 +40,8 @@ impl Part {
     }
 }
 
-// The act that a request asks: its number is the service byte, 0 for none, and as many of the three parts as are counted are its arguments.
+// The act that a request asks: its number is the service byte, 0 for none, and as many of the three parts as are counted are its arguments. It goes to C, so it
+// says by that number whether there is one.
 #[repr(C)]
 #[derive(Clone, Copy)]
 pub struct Act {
@@ -64,15 +66,26 @@ impl Act {
     }
 }
 
-// What a service answers before its act's outcome is known: refused, or the act that it asks. So a question is answered.
+// A request as a service sees it: of which session and level, how many subscriptions stand and frames wait, from whom, when and what; then what was
+// handed in for its act, and the value table with its pool. The security record, the subscriptions and the room stand beside it, since services change them.
+// What was handed in is an error byte and bytes, as C hands it.
 #[derive(Clone, Copy)]
-pub enum Ask {
-    Refused(u8),
-    Asks(Act),
+pub struct Request<'a> {
+    pub config: &'a Config,
+    pub session: u8,
+    pub level: u8,
+    pub subscriptions: u8,
+    pub frames: u8,
+    pub src: u32,
+    pub t: Instant,
+    pub payload: &'a [u8],
+    pub err: u8,
+    pub given: &'a [u8],
+    pub values: &'a [u32],
+    pub pool: &'a [u8],
 }
 
 // What a service answers that changes nothing: the reply, which stands in the free place of the room, and the act.
-#[repr(C)]
 #[derive(Clone, Copy)]
 pub struct Spoken {
     pub reply: Reply,
@@ -80,57 +93,77 @@ pub struct Spoken {
 }
 
 // What a service answers that changes something.
-#[repr(C)]
 #[derive(Clone, Copy)]
 pub struct Wanted {
     pub effect: Effect,
     pub act: Act,
 }
 
-// An error byte is that error; bytes above the limit count as error 0x22; 0 stands for the bytes.
-pub fn outcome(err: u8, bytes: &[u8], limit: usize) -> u8
-    ensures { Values.outcome limit (record { err = err; bytes = bytes.now }) ≡ outcome_of result bytes.now }
-{
-    if err != 0 {
-        return err;
-    }
-    if limit < bytes.len() {
-        return Nrc::CONDITIONS_NOT_CORRECT;
-    }
-    0
-}
-
 // The first bytes, as many as there are.
 pub fn first(bytes: &[u8], n: usize) -> &[u8]
     ensures { result.now ≡ take n bytes.now }
 {
-    if bytes.len() < n {
-        return bytes;
-    }
-    &bytes[0..n]
+    &bytes[..n.min(bytes.len())]
 }
 
-// A reply, and nothing changed.
-pub fn says(session: u8, level: u8, subscriptions: u8, reply: Reply) -> Effect
-    ensures { result ≡ says_of session level subscriptions reply }
-{
-    Effect {
-        reply,
-        session,
-        level,
-        subscriptions,
-        clears_seed: false,
-        waits: false,
+impl<'a> Request<'a> {
+    // A payload, asked of session 1 with no level held, at the clock's zero; nothing is handed in, and there is no value table.
+    pub fn of(config: &'a Config, payload: &'a [u8]) -> Request<'a>
+        ensures lent { (result.config.now ≡ config.now) × (result.payload.now ≡ payload.now) }
+        ensures numbers { (result.session ≡ 1) × (result.level ≡ 0) × (result.subscriptions ≡ 0) × (result.frames ≡ 0) × (result.src ≡ 0) × (result.t.0 ≡ 0) }
+        ensures handed { (result.err ≡ 0) × (result.given.now ≡ []) × (result.values.now ≡ []) × (result.pool.now ≡ []) }
+    {
+        Request {
+            config,
+            session: 1,
+            level: 0,
+            subscriptions: 0,
+            frames: 0,
+            src: 0,
+            t: Instant::ZERO,
+            payload,
+            err: 0,
+            given: &[],
+            values: &[],
+            pool: &[],
+        }
     }
-}
 
-// Refused, and nothing changed.
-pub fn refused(session: u8, level: u8, subscriptions: u8, code: u8) -> Wanted
-    ensures { Refuses session level subscriptions code result }
-{
-    Wanted {
-        effect: says(session, level, subscriptions, Reply::Negative(code)),
-        act: Act::none(),
+    // What was handed in for the act, of which a limit of bytes count: an error byte is that error, bytes above the limit are error 0x22.
+    pub fn outcome(&self, limit: usize) -> Result<(), u8>
+        ensures { Values.outcome limit (record { err = self.now.err; bytes = self.now.given.now }) ≡ outcome_of result self.now.given.now }
+    {
+        if self.err != 0 {
+            return Err(self.err);
+        }
+        if limit < self.given.len() {
+            return Err(Nrc::CONDITIONS_NOT_CORRECT);
+        }
+        Ok(())
+    }
+
+    // A reply, and nothing changed.
+    pub fn says(&self, reply: Reply) -> Effect
+        ensures { result ≡ says_of self.now.session self.now.level self.now.subscriptions reply }
+    {
+        Effect {
+            reply,
+            session: self.session,
+            level: self.level,
+            subscriptions: self.subscriptions,
+            clears_seed: false,
+            waits: false,
+        }
+    }
+
+    // Refused, and nothing changed.
+    pub fn refused(&self, code: u8) -> Wanted
+        ensures { Refuses self.now.session self.now.level self.now.subscriptions code result }
+    {
+        Wanted {
+            effect: self.says(Reply::Negative(code)),
+            act: Act::none(),
+        }
     }
 }
 
@@ -148,24 +181,24 @@ pub fn refusal(code: u8) -> Reply
 pub fn joined(frames: u8, head: &[u8], tail: &[u8], room: &mut Room) -> Reply
     ensures { Replies (positive (head.now ++ tail.now)) frames room.old result room.new }
 {
-    let Drafted::Going(n) = queue::draft::extend(room, frames, 0, head) else {
+    let Some(n) = queue::draft::extend(room, frames, 0, head) else {
         return Reply::Negative(Nrc::RESPONSE_TOO_LONG);
     };
     queue::draft::said(queue::draft::extend(room, frames, n, tail))
 }
 
-// What comes of an act, by the code of its outcome: an error byte is sent as the negative code; else the reply of two parts, unless suppressed.
+// What comes of an act, by its outcome: an error byte is sent as the negative code; else the reply of two parts, unless suppressed.
 pub fn acted(
     frames: u8,
-    code: u8,
+    outcome: Result<(), u8>,
     suppress: bool,
     head: &[u8],
     tail: &[u8],
     room: &mut Room,
 ) -> Reply
-    ensures { Replies (acted_reply code suppress (head.now ++ tail.now)) frames room.old result room.new }
+    ensures { Replies (acted_reply outcome suppress (head.now ++ tail.now)) frames room.old result room.new }
 {
-    if code != 0 {
+    if let Err(code) = outcome {
         return refusal(code);
     }
     if suppress {
@@ -176,23 +209,23 @@ pub fn acted(
 
 // A service that asks an act: refused before it, or answered by its outcome. The promise is for every such service.
 pub fn answered(
-    ask: Ask,
+    ask: Result<Act, u8>,
     frames: u8,
-    code: u8,
+    outcome: Result<(), u8>,
     suppress: bool,
     head: &[u8],
     tail: &[u8],
     room: &mut Room,
 ) -> Spoken
-    ensures { (f : Seen → Served) (later : Seen → Service.Effect) (v : Seen) → Asked f later v ask → later v ≡ Service.says v (acted_reply code suppress (head.now ++ tail.now)) → Speaks f v frames room.old result room.new }
+    ensures { (f : Seen → Served) (later : Seen → Service.Effect) (v : Seen) → Asked f later v ask → later v ≡ Service.says v (acted_reply outcome suppress (head.now ++ tail.now)) → Speaks f v frames room.old result room.new }
 {
     match ask {
-        Ask::Refused(why) => Spoken {
+        Err(why) => Spoken {
             reply: Reply::Negative(why),
             act: Act::none(),
         },
-        Ask::Asks(act) => Spoken {
-            reply: acted(frames, code, suppress, head, tail, room),
+        Ok(act) => Spoken {
+            reply: acted(frames, outcome, suppress, head, tail, room),
             act,
         },
     }

@@ -25,8 +25,11 @@ use periodic::Subscriptions;
 use queue::Room;
 use queue::reply::Reply;
 use security::Security;
-use service::{Act, Spoken, Wanted};
+use service::{Act, Request, Spoken, Wanted};
 use uds::clock::Instant;
+
+// What a service is lent that does not look at a configuration.
+const NO_CONFIG: Config = [0; 3006];
 
 // A reply by number: 0 says nothing, 1 a payload of n bytes, 2 the code n under the rule of functional requests, 3 the code n however it was
 // addressed, 4 that the request is pending.
@@ -58,6 +61,7 @@ pub struct ToldWanted {
     pub clears_seed: bool,
 }
 
+#[tactic(auto, unfolding(crate::specs::Told::reply_told))]
 fn number(reply: Reply) -> Said
     ensures { reply_told result ≡ reply }
 {
@@ -65,42 +69,52 @@ fn number(reply: Reply) -> Said
         Reply::Silent => Said { n: 0, kind: 0 },
         Reply::Positive(len) => Said { n: len, kind: 1 },
         Reply::Negative(code) => Said {
-            n: code as usize,
+            n: usize::from(code),
             kind: 2,
         },
         Reply::Always(code) => Said {
-            n: code as usize,
+            n: usize::from(code),
             kind: 3,
         },
         Reply::Pends => Said { n: 0, kind: 4 },
     }
 }
 
+#[tactic(auto, unfolding(crate::specs::Told::spoken_told))]
 fn told_spoken(spoken: Spoken) -> ToldSpoken
     ensures { spoken_told result ≡ spoken }
 {
-    let reply = spoken.reply;
-    let act = spoken.act;
     ToldSpoken {
-        reply: number(reply),
-        act,
+        reply: number(spoken.reply),
+        act: spoken.act,
     }
 }
 
+#[tactic(auto, unfolding(crate::specs::Told::wanted_told))]
 fn told_wanted(wanted: Wanted) -> ToldWanted
     ensures { wanted_told result ≡ wanted }
 {
     let effect = wanted.effect;
-    let act = wanted.act;
-    let reply = effect.reply;
     ToldWanted {
-        reply: number(reply),
-        act,
+        reply: number(effect.reply),
+        act: wanted.act,
         session: effect.session,
         level: effect.level,
         subscriptions: effect.subscriptions,
         waits: effect.waits,
         clears_seed: effect.clears_seed,
+    }
+}
+
+// A request of a service that looks at no configuration and at no session, with what is handed in for its act.
+fn requested<'a>(frames: u8, payload: &'a [u8], err: u8, given: &'a [u8]) -> Request<'a>
+    ensures { (result.frames ≡ frames) × (result.payload.now ≡ payload.now) × (result.err ≡ err) × (result.given.now ≡ given.now) }
+{
+    Request {
+        frames,
+        err,
+        given,
+        ..Request::of(&NO_CONFIG, payload)
     }
 }
 
@@ -117,16 +131,14 @@ pub extern "C" fn bench_service10(
 ) -> ToldWanted
     ensures { (v : Seen) (k subs : List ℕ) → Serves S10.service10 (in_session session level (secured k (subscribed subscriptions subs (asking payload.now (configured config.now v))))) k subs frames room.old (wanted_told result) k subs room.new }
 {
-    let wanted = management::service10::service10(
-        config,
+    let request = Request {
         session,
         level,
         subscriptions,
         frames,
-        payload,
-        room,
-    );
-    told_wanted(wanted)
+        ..Request::of(config, payload)
+    };
+    told_wanted(management::service10::service10(&request, room))
 }
 
 // 11 ecuReset.
@@ -143,17 +155,16 @@ pub extern "C" fn bench_service11(
 ) -> ToldWanted
     ensures { (v : Seen) (k subs : List ℕ) → Serves S11.service11 (in_session session level (secured k (subscribed subscriptions subs (asking payload.now (handed err given.now v))))) k subs frames room.old (wanted_told result) k subs room.new }
 {
-    let wanted = management::service11::service11(
+    let request = Request {
         session,
         level,
         subscriptions,
         frames,
-        payload,
         err,
         given,
-        room,
-    );
-    told_wanted(wanted)
+        ..Request::of(&NO_CONFIG, payload)
+    };
+    told_wanted(management::service11::service11(&request, room))
 }
 
 // 22 readDataByIdentifier.
@@ -170,10 +181,15 @@ pub extern "C" fn bench_service22(
 ) -> ToldSpoken
     ensures { (v : Seen) → Speaks S22.service22 (asking payload.now (configured config.now (in_session session level (valued values.now pool.now v)))) frames room.old (spoken_told result) room.new }
 {
-    let spoken = data::service22::service22(
-        config, session, level, frames, values, pool, payload, room,
-    );
-    told_spoken(spoken)
+    let request = Request {
+        session,
+        level,
+        frames,
+        values,
+        pool,
+        ..Request::of(config, payload)
+    };
+    told_spoken(data::service22::service22(&request, room))
 }
 
 // 27 securityAccess.
@@ -193,20 +209,17 @@ pub extern "C" fn bench_service27(
 ) -> ToldWanted
     ensures { (v : Seen) (subs : List ℕ) → Serves access27 (in_session session level (secured k.old (subscribed subscriptions subs (received_at t.0 (asking payload.now (configured config.now (handed err given.now v))))))) k.old subs frames room.old (wanted_told result) k.new subs room.new }
 {
-    let wanted = access::service27::service27(
-        config,
+    let request = Request {
         session,
         level,
         subscriptions,
         frames,
-        payload,
         t,
         err,
         given,
-        k,
-        room,
-    );
-    told_wanted(wanted)
+        ..Request::of(config, payload)
+    };
+    told_wanted(access::service27::service27(&request, k, room))
 }
 
 // 28 communicationControl.
@@ -220,8 +233,7 @@ pub extern "C" fn bench_service28(
 ) -> ToldSpoken
     ensures { (v : Seen) → Speaks S28.service28 (asking payload.now (handed err given.now v)) frames room.old (spoken_told result) room.new }
 {
-    let spoken = management::service28::service28(frames, payload, err, given, room);
-    told_spoken(spoken)
+    told_spoken(management::service28::service28(&requested(frames, payload, err, given), room))
 }
 
 // 2A readDataByPeriodicIdentifier.
@@ -240,19 +252,16 @@ pub extern "C" fn bench_service2A(
 ) -> ToldWanted
     ensures { (v : Seen) (k : List ℕ) → Serves guarded2A (in_session session level (received_at t.0 (received_from src (configured config.now (subscribed subscriptions subs.old (asking payload.now (secured k v))))))) k subs.old frames room.old (wanted_told result) k subs.new room.new }
 {
-    let wanted = transmission::service2A::service2A(
-        config,
+    let request = Request {
         session,
         level,
         subscriptions,
         frames,
         src,
         t,
-        payload,
-        subs,
-        room,
-    );
-    told_wanted(wanted)
+        ..Request::of(config, payload)
+    };
+    told_wanted(transmission::service2A::service2A(&request, subs, room))
 }
 
 // 2E writeDataByIdentifier.
@@ -269,10 +278,15 @@ pub extern "C" fn bench_service2E(
 ) -> ToldSpoken
     ensures { (v : Seen) → Speaks S2E.service2E (asking payload.now (handed err given.now (configured config.now (in_session session level v)))) frames room.old (spoken_told result) room.new }
 {
-    let spoken = data::service2E::service2E(
-        config, session, level, frames, payload, err, given, room,
-    );
-    told_spoken(spoken)
+    let request = Request {
+        session,
+        level,
+        frames,
+        err,
+        given,
+        ..Request::of(config, payload)
+    };
+    told_spoken(data::service2E::service2E(&request, room))
 }
 
 // 2F inputOutputControlByIdentifier.
@@ -286,8 +300,7 @@ pub extern "C" fn bench_service2F(
 ) -> ToldSpoken
     ensures { (v : Seen) → Speaks S2F.service2F (asking payload.now (handed err given.now v)) frames room.old (spoken_told result) room.new }
 {
-    let spoken = control::service2F::service2F(frames, payload, err, given, room);
-    told_spoken(spoken)
+    told_spoken(control::service2F::service2F(&requested(frames, payload, err, given), room))
 }
 
 // 31 routineControl.
@@ -301,8 +314,7 @@ pub extern "C" fn bench_service31(
 ) -> ToldSpoken
     ensures { (v : Seen) → Speaks S31.service31 (asking payload.now (handed err given.now v)) frames room.old (spoken_told result) room.new }
 {
-    let spoken = control::service31::service31(frames, payload, err, given, room);
-    told_spoken(spoken)
+    told_spoken(control::service31::service31(&requested(frames, payload, err, given), room))
 }
 
 // 34 requestDownload.
@@ -316,8 +328,7 @@ pub extern "C" fn bench_service34(
 ) -> ToldSpoken
     ensures { (v : Seen) → Speaks S34.service34 (asking payload.now (handed err given.now v)) frames room.old (spoken_told result) room.new }
 {
-    let spoken = transfer::service34::service34(frames, payload, err, given, room);
-    told_spoken(spoken)
+    told_spoken(transfer::service34::service34(&requested(frames, payload, err, given), room))
 }
 
 // 36 transferData.
@@ -331,8 +342,7 @@ pub extern "C" fn bench_service36(
 ) -> ToldSpoken
     ensures { (v : Seen) → Speaks S36.service36 (asking payload.now (handed err given.now v)) frames room.old (spoken_told result) room.new }
 {
-    let spoken = transfer::service36::service36(frames, payload, err, given, room);
-    told_spoken(spoken)
+    told_spoken(transfer::service36::service36(&requested(frames, payload, err, given), room))
 }
 
 // 37 requestTransferExit.
@@ -346,8 +356,7 @@ pub extern "C" fn bench_service37(
 ) -> ToldSpoken
     ensures { (v : Seen) → Speaks S37.service37 (asking payload.now (handed err given.now v)) frames room.old (spoken_told result) room.new }
 {
-    let spoken = transfer::service37::service37(frames, payload, err, given, room);
-    told_spoken(spoken)
+    told_spoken(transfer::service37::service37(&requested(frames, payload, err, given), room))
 }
 
 // 38 requestFileTransfer.
@@ -361,8 +370,7 @@ pub extern "C" fn bench_service38(
 ) -> ToldSpoken
     ensures { (v : Seen) → Speaks S38.service38 (asking payload.now (handed err given.now v)) frames room.old (spoken_told result) room.new }
 {
-    let spoken = transfer::service38::service38(frames, payload, err, given, room);
-    told_spoken(spoken)
+    told_spoken(transfer::service38::service38(&requested(frames, payload, err, given), room))
 }
 
 // 3E testerPresent.
@@ -370,6 +378,9 @@ pub extern "C" fn bench_service38(
 pub extern "C" fn bench_service3E(frames: u8, payload: &[u8], room: &mut Room) -> ToldSpoken
     ensures { (v : Seen) → Speaks S3E.service3E (asking payload.now v) frames room.old (spoken_told result) room.new }
 {
-    let spoken = management::service3E::service3E(frames, payload, room);
-    told_spoken(spoken)
+    let request = Request {
+        frames,
+        ..Request::of(&NO_CONFIG, payload)
+    };
+    told_spoken(management::service3E::service3E(&request, room))
 }

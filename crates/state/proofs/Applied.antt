@@ -20,8 +20,6 @@ use Rattle.uds.specs.Clock.{later, starts}
 use Rattle.uds.proofs.Times.{in_time, on_the_clock}
 use Rattle.config.specs.View.{config_of}
 use Rattle.queue.specs.View.{queue_of, reply_of, mode_of}
-use Rattle.queue.specs.View as Queue
-use Rattle.queue.specs.declared.reply.Pushed.{Pushed}
 use Rattle.queue.specs.declared.reply.Reply.{Reply}
 use Rattle.queue.specs.declared.reply.Reply.TheVariants.{Silent, Positive, Negative, Always, Pends}
 use Rattle.periodic.specs.View.{table_of}
@@ -31,7 +29,6 @@ use Rattle.state.specs.declared.PendingRequest.{PendingRequest}
 use Rattle.state.specs.declared.State.{State}
 use Rattle.state.specs.declared.apply.Effect.{Effect}
 use Rattle.state.specs.declared.apply.Answer.{Answer}
-use Rattle.state.specs.declared.apply.Said.{Said}
 use Rattle.state.specs.View.{session_of, pending_of, beside, state_of, step_of, pends_of, made_at, awaited, Replies, effect_of, Applies}
 
 -- a fresh state is fresh in all that it holds
@@ -61,23 +58,20 @@ pub becomes_pending : (w : List ℕ) (session to sid t deadline p2 : ℕ) → p2
 becomes_pending w session to sid t deadline p2 fits d e =
     ap (λ (x : ℕ). some (record { dst = to; sid = sid; deadline = x })) (in_time t p2 deadline fits d ∙ ap (λ (x : ℕ). starts t x + x) e)
 
-module _ (w : List ℕ) (session : ℕ) (pending : PendingRequest) (frames : ℕ) (functional : Bool) (heads room : List ℕ) (to sid t : ℕ) (reply : Reply) (p : Pushed) (heads' room' : List ℕ)
-    (q : Queue.step_of p heads' room' ≡ answered max_frame (mode_of functional) (queue_of frames heads room) to sid (reply_of reply frames room)) where
-  abbrev with_pending_lem : PendingRequest → Said
-  with_pending_lem x = record { pending = x; frames = p.count; result = p.result }
-
+module _ (w : List ℕ) (session : ℕ) (pending : PendingRequest) (frames : ℕ) (functional : Bool) (heads room : List ℕ) (to sid t : ℕ) (reply : Reply) (n count : ℕ) (heads' room' : List ℕ)
+    (q : record { result = n; queue = queue_of count heads' room' } ≡ answered max_frame (mode_of functional) (queue_of frames heads room) to sid (reply_of reply frames room)) where
   -- a reply is the queue's step taken into the state in which it is queued
   reply-taken : (x : PendingRequest) → ((a : Session) (k : Security) (table : List Subscription) → a.session_type ≡ session
       → beside w a k table x functional frames heads room ≡ readied (beside w a k table pending functional frames heads room) to sid (made_at w session t) (reply_of reply frames room))
-      → Replies w session pending frames functional heads room to sid t reply (with_pending_lem x) heads' room'
+      → Replies w session pending frames functional heads room to sid t reply x n count heads' room'
   unfolding replied
   reply-taken x h = record { step = λ a k table e. ap₂ taken (h a k table e) q }
 
-  pub reply-kept : pends_of reply ≡ false → Replies w session pending frames functional heads room to sid t reply (with_pending_lem pending) heads' room'
+  pub reply-kept : pends_of reply ≡ false → Replies w session pending frames functional heads room to sid t reply pending n count heads' room'
   reply-kept n = reply-taken pending (λ a k table e. not-pending (beside w a k table pending functional frames heads room) to sid (made_at w session t) frames room reply n)
 
   -- one that does makes it so first
-  pub reply-pends : (x : PendingRequest) → pends_of reply ≡ true → pending_of x ≡ awaited w session to sid t → Replies w session pending frames functional heads room to sid t reply (with_pending_lem x) heads' room'
+  pub reply-pends : (x : PendingRequest) → pends_of reply ≡ true → pending_of x ≡ awaited w session to sid t → Replies w session pending frames functional heads room to sid t reply x n count heads' room'
   reply-pends x n e =
       reply-taken x
       (λ a k table z.
@@ -86,16 +80,16 @@ module _ (w : List ℕ) (session : ℕ) (pending : PendingRequest) (frames : ℕ
       ∙ ap (λ (r : Reply). readied m to sid (made_at w session t) (reply_of r frames room)) (sym (is_pends reply n)))
 
 -- an effect: in which order the reply and the change come, and whether the change is made
-module _ (w : List ℕ) (s : State) (k heads room : List ℕ) (to sid t : ℕ) (functional : Bool) (e : Effect) (p : Said) (k' heads' room' : List ℕ) where
+module _ (w : List ℕ) (s : State) (k heads room : List ℕ) (to sid t : ℕ) (functional : Bool) (e : Effect) (pending' : PendingRequest) (n' frames' : ℕ) (k' heads' room' : List ℕ) where
   -- the answer, with the three numbers that an effect may change
   abbrev leaving : ℕ → ℕ → ℕ → Answer
   leaving x level n = record {
-    state = record { session = record { last_rx = record { 0 = t }; session_type = x; level = level }; pending = p.pending; functional = functional; subscriptions = n; frames = p.frames };
-    result = p.result;
+    state = record { session = record { last_rx = record { 0 = t }; session_type = x; level = level }; pending = pending'; functional = functional; subscriptions = n; frames = frames' };
+    result = n';
   }
 
   abbrev Reply_in : ℕ → Type 0
-  Reply_in session = Replies w session s.pending s.frames functional heads room to sid t e.reply p heads' room'
+  Reply_in session = Replies w session s.pending s.frames functional heads room to sid t e.reply pending' n' frames' heads' room'
 
   -- the step that the definition takes
   abbrev Leaves : ℕ → ℕ → ℕ → Type 0
@@ -114,15 +108,15 @@ module _ (w : List ℕ) (s : State) (k heads room : List ℕ) (to sid t : ℕ) (
   made_first h r c subs = r.step (at e.session e.level) (security_of k') (table_of e.subscriptions subs) refl ∙ rw (h, c)
 
   -- one that waits is not made where the reply met a result
-  unmade : e.waits ≡ true → (p.result ≡ 0 → ⊥) → Reply_in s.session.session_type → security_of k' ≡ security_of k → Leaves s.session.session_type s.session.level s.subscriptions
+  unmade : e.waits ≡ true → (n' ≡ 0 → ⊥) → Reply_in s.session.session_type → security_of k' ≡ security_of k → Leaves s.session.session_type s.session.level s.subscriptions
   unfolding Rules.apply Rules.changed_after
   unmade h n r c subs =
       let z = r.step (at s.session.session_type s.session.level) (security_of k) (table_of s.subscriptions subs) refl in
-      let m : (replied max_frame (received (state_of w s k subs heads room) (mode_of functional) t) to sid (made_at w s.session.session_type t) (reply_of e.reply s.frames room)).result ≡ p.result = ap (λ (x : Model.Step). x.result) (sym z) in
-      rw c (z ∙ rw (h, m, ne_eqb p.result 0 n))
+      let m : (replied max_frame (received (state_of w s k subs heads room) (mode_of functional) t) to sid (made_at w s.session.session_type t) (reply_of e.reply s.frames room)).result ≡ n' = ap (λ (x : Model.Step). x.result) (sym z) in
+      rw c (z ∙ rw (h, m, ne_eqb n' 0 n))
 
   -- and is made where it met none
-  made_then : e.waits ≡ true → p.result ≡ 0 → Reply_in s.session.session_type → security_of k' ≡ changed → Leaves e.session e.level e.subscriptions
+  made_then : e.waits ≡ true → n' ≡ 0 → Reply_in s.session.session_type → security_of k' ≡ changed → Leaves e.session e.level e.subscriptions
   unfolding Rules.apply Rules.changed_after
   made_then h n r c subs =
       let q = r.step (at s.session.session_type s.session.level) (security_of k) (table_of s.subscriptions subs) refl in
@@ -133,16 +127,23 @@ module _ (w : List ℕ) (s : State) (k heads room : List ℕ) (to sid t : ℕ) (
       ap₂ Model.step n f ∙ rw (h, m)
 
   -- what was asked of the callees, and the answer built from it
-  pub applied : (at : ℕ) (made clears : Bool) (x level n : ℕ) → at ≡ pick e.waits s.session.session_type e.session → Reply_in at → made ≡ pick e.waits (eqb p.result 0) true
+  pub applied : (at : ℕ) (made clears : Bool) (x level n : ℕ) → at ≡ pick e.waits s.session.session_type e.session → Reply_in at → made ≡ pick e.waits (eqb n' 0) true
       → clears ≡ (made && e.clears_seed) → ClearsIf k clears k'
       → x ≡ pick made e.session s.session.session_type → level ≡ pick made e.level s.session.level → n ≡ pick made e.subscriptions s.subscriptions
       → Applies w s k heads room to sid t functional e (leaving x level n) k' heads' room'
-  applied at made clears x level n a r b c d ex el en = record { step = rw (ex, el, en) (go e.waits (eqb p.result 0) refl refl); words = rw (← b, ← c) d }
+  applied at made clears x level n a r b c d ex el en = record { step = rw (ex, el, en) (go e.waits (eqb n' 0) refl refl); words = rw (← b, ← c) d }
     where
-      go : (v z : Bool) → e.waits ≡ v → eqb p.result 0 ≡ z → Leaves (pick made e.session s.session.session_type) (pick made e.level s.session.level) (pick made e.subscriptions s.subscriptions)
+      go : (v z : Bool) → e.waits ≡ v → eqb n' 0 ≡ z → Leaves (pick made e.session s.session.session_type) (pick made e.level s.session.level) (pick made e.subscriptions s.subscriptions)
       go false z h y = let m : made ≡ true = rw h at b in rw m (made_first h (rw (a, h) at r) (d.state ∙ rw (c, m)))
-      go true true h y = let m : made ≡ true = rw (h, y) at b in rw m (made_then h (eqb-true p.result 0 y) (rw (a, h) at r) (d.state ∙ rw (c, m)))
-      go true false h y = let m : made ≡ false = rw (h, y) at b in rw m (unmade h (eqb-false p.result 0 y) (rw (a, h) at r) (d.state ∙ rw (c, m)))
+      go true true h y = let m : made ≡ true = rw (h, y) at b in rw m (made_then h (eqb-true n' 0 y) (rw (a, h) at r) (d.state ∙ rw (c, m)))
+      go true false h y = let m : made ≡ false = rw (h, y) at b in rw m (unmade h (eqb-false n' 0 y) (rw (a, h) at r) (d.state ∙ rw (c, m)))
+
+  -- and its result told by its number
+  pub applied_told : (m at : ℕ) (made clears : Bool) (x level n : ℕ) → m ≡ n' → at ≡ pick e.waits s.session.session_type e.session → Reply_in at → made ≡ pick e.waits (eqb n' 0) true
+      → clears ≡ (made && e.clears_seed) → ClearsIf k clears k'
+      → x ≡ pick made e.session s.session.session_type → level ≡ pick made e.level s.session.level → n ≡ pick made e.subscriptions s.subscriptions
+      → Applies w s k heads room to sid t functional e (record { state = (leaving x level n).state; result = m }) k' heads' room'
+  applied_told m at made clears x level n z a r b c d ex el en = rw z (applied at made clears x level n a r b c d ex el en)
 
 -- at the times that are taken, under a configuration that keeps the numbers, a reply is made now
 pub made_now : (w : List ℕ) (session t : ℕ) → within (config_of w) ≡ true → t ≤ max_time → made_at w session t ≡ t

@@ -11,9 +11,12 @@ use Rattle.model.specs.Tests.{pick}
 use Rattle.model.specs.State as Model
 use Rattle.model.specs.State.{AddressMode, physical, functional, Session, Step, step}
 use Rattle.uds.proofs.Promise.{Settles, Answer}
+use Rattle.uds.specs.Result.{result_of}
+use Rattle.uds.proofs.Refusals.{same_result}
 use Rattle.uds.proofs.Settled.{said}
 use Rattle.uds.proofs.Tab.{tab-length}
-use Rattle.queue.specs.View.{frame_at, queue_of, mode_of}
+use Rattle.queue.specs.View.{frame_at, queue_of, queue_in, mode_of}
+use Rattle.queue.specs.declared.reply.Outbox.{Outbox}
 use Rattle.periodic.specs.View.{entry_at}
 use Rattle.security.specs.View.{seed_at, ClearsIf}
 use Rattle.state.specs.View.{session_of, pending_of, beside, state_of, step_of, Applies}
@@ -121,28 +124,28 @@ state s s' config config' k k' subs subs' heads heads' room room' z = record {
 pub new_state_settled : (κs : _) (a : _) → Settles (new-state.Post κs a) (λ x e y f. SameState x y)
 new_state_settled κs a x e y f p q = state x y [] [] [] [] [] [] [] [] [] [] (said (p [] [] [] [] [] refl) (q [] [] [] [] [] refl))
 
--- of a reply the result, the pending request, and the queue that is seen
-pub record SameSaid (r r' : Said) (heads heads' room room' : List ℕ) : Type 0 where
-  pub result : r.result ≡ r'.result
+-- of a reply what was done, the pending request, and the queue that is seen
+pub record SameSaid (r r' : Said) (o o' : Outbox) : Type 0 where
+  pub done : r.done ≡ r'.done
   pub pending : SamePending r.pending r'.pending
-  pub frames : r.frames ≡ r'.frames
-  pub queue : queue_of r.frames heads room ≡ queue_of r'.frames heads' room'
+  pub frames : o.count ≡ o'.count
+  pub queue : queue_in o ≡ queue_in o'
 
 -- in a state that is any
-pub same-said : (config : List ℕ) (at : Session) (functional : Bool) (r r' : Said) (heads heads' room room' : List ℕ)
-    → step r.result (beside config at Model.fresh_security [] r.pending functional r.frames heads room) ≡ step r'.result (beside config at Model.fresh_security [] r'.pending functional r'.frames heads' room')
-    → SameSaid r r' heads heads' room room'
-same-said config at fn r r' heads heads' room room' z = record {
-  result = ap (λ (m : Step). m.result) z;
+pub same-said : (config : List ℕ) (at : Session) (functional : Bool) (r r' : Said) (o o' : Outbox)
+    → step (result_of r.done) (beside config at Model.fresh_security [] r.pending functional o.count o.heads.now o.room.now) ≡ step (result_of r'.done) (beside config at Model.fresh_security [] r'.pending functional o'.count o'.heads.now o'.room.now)
+    → SameSaid r r' o o'
+same-said config at fn r r' o o' z = record {
+  done = same_result (ap (λ (m : Step). m.result) z);
   pending = pending r.pending r'.pending (ap (λ (m : Step). m.state.pending) z);
-  frames = as_many r.frames r'.frames heads heads' room room' (ap (λ (m : Step). m.state.queue) z);
+  frames = as_many o.count o'.count o.heads.now o'.heads.now o.room.now o'.room.now (ap (λ (m : Step). m.state.queue) z);
   queue = ap (λ (m : Step). m.state.queue) z;
 }
 
-pub replied_settled : (κs : _) (a : _) → Settles (replied.Post κs a) (λ x e y f. SameSaid x y e.1.1.1.1.1.0.now f.1.1.1.1.1.0.now e.1.1.1.1.1.1.0.now f.1.1.1.1.1.1.0.now)
+pub replied_settled : (κs : _) (a : _) → Settles (replied.Post κs a) (λ x e y f. SameSaid x y e.1.1.1.0.now f.1.1.1.0.now)
 replied_settled κs a x e y f p q =
     let at : Session = record { session_type = a.1.0; level = 0; last_rx = 0 } in
-    same-said a.0.now at a.1.1.1.1.0 x y e.1.1.1.1.1.0.now f.1.1.1.1.1.0.now e.1.1.1.1.1.1.0.now f.1.1.1.1.1.1.0.now (said (p.step at Model.fresh_security [] refl) (q.step at Model.fresh_security [] refl))
+    same-said a.0.now at a.1.1.1.1.0.functional x y e.1.1.1.0.now f.1.1.1.0.now (said (p.1.1.step at Model.fresh_security [] refl) (q.1.1.step at Model.fresh_security [] refl))
 
 -- of an effect the result, the state, what is seen of all that is lent, and every byte of the seed
 pub record SameAnswer (config : List ℕ) (r r' : Applied.Answer) (k k' heads heads' room room' : List ℕ) : Type 0 where

@@ -10,8 +10,11 @@ use Rattle.model.specs.Reply as Rules
 use Rattle.model.specs.Service.{apply}
 use Rattle.model.specs.Service as Service
 use Rattle.uds.specs.Clock.{starts}
+use Rattle.uds.specs.Result.{result_of}
 use Rattle.config.specs.View.{config_of}
 use Rattle.queue.specs.View.{queue_of, reply_of, mode_of}
+use Rattle.queue.specs.declared.reply.Asker.{Asker}
+use Rattle.queue.specs.declared.reply.Outbox.{Outbox}
 use Rattle.queue.specs.declared.reply.Reply.{Reply}
 use Rattle.queue.specs.declared.reply.Reply.TheVariants.{Silent, Positive, Negative, Always, Pends}
 use Rattle.periodic.specs.View.{table_of}
@@ -63,11 +66,16 @@ made_at config session t = starts t (p2_ext_of (find_session (config_of config) 
 abbrev pub awaited : List ℕ → ℕ → ℕ → ℕ → Moment → Option Model.PendingRequest
 awaited config session to sid t = some (record { dst = to; sid = sid; deadline = made_at config session t + p2_ext_of (find_session (config_of config) session) })
 
--- a reply carried out in a session, whatever else the state holds
-pub record Replies (config : List ℕ) (session : ℕ) (pending : PendingRequest) (frames : ℕ) (functional : Bool) (heads room : List ℕ) (to sid t : ℕ) (reply : Reply) (r : Said) (heads' room' : List ℕ) : Type 0 where
+-- a reply carried out in a session, whatever else the state holds: the pending request that is left, the result, and how many frames wait
+pub record Replies (config : List ℕ) (session : ℕ) (pending : PendingRequest) (frames : ℕ) (functional : Bool) (heads room : List ℕ) (to sid t : ℕ) (reply : Reply) (pending' : PendingRequest) (result frames' : ℕ) (heads' room' : List ℕ) : Type 0 where
   pub step : (a : Session) (k : Security) (table : List Subscription) → a.session_type ≡ session
-      → step r.result (beside config a k table r.pending functional r.frames heads' room')
+      → step result (beside config a k table pending' functional frames' heads' room')
       ≡ Rules.replied max_frame (beside config a k table pending functional frames heads room) to sid (made_at config session t) (reply_of reply frames room)
+
+-- the same, of an outbox
+abbrev pub RepliesIn : List ℕ → ℕ → PendingRequest → Outbox → Asker → ℕ → Reply → Said → Outbox → Type 0
+RepliesIn config session pending o asker t reply r o' =
+    Replies config session pending o.count asker.functional o.heads.now o.room.now asker.to asker.sid t reply r.pending (result_of r.done) o'.count o'.heads.now o'.room.now
 
 -- what a service wants, of a request that was received at t and whose reply stands in the free place of a room
 abbrev pub effect_of : Effect → Moment → List ℕ → List ℕ → ℕ → List ℕ → Service.Effect

@@ -1,19 +1,19 @@
 // A service says what it wants, and one function carries it out.
 ghost use Rattle.std.specs.Prelude.{◌≡◌, true, ◌&&◌, nat_eq};
 ghost use Rattle.model.specs.Tests.{pick};
-ghost use Rattle.state.specs.View.{pending_of, pends_of, awaited, Replies, Applies};
+ghost use Rattle.uds.specs.Result.{result_of};
+ghost use Rattle.state.specs.View.{pending_of, pends_of, awaited, RepliesIn, Applies};
 
 use super::{PendingRequest, SessionState, State};
 use config::Config;
-use queue::reply::Reply;
+use queue::reply::{Asker, Outbox, Reply};
 use queue::{Heads, Room};
 use security::Security;
 use uds::clock::Instant;
-use uds::result::DONE;
+use uds::result::{Refusal, number};
 
 // What a service wants: the numbers that it may change, the reply, whether the seed is cleared, and whether the change waits until the reply is
 // queued. What 27 does to the security record, and 2A to the subscriptions, stands in the lent words when it answers; neither waits.
-#[repr(C)]
 #[derive(Clone, Copy)]
 pub struct Effect {
     pub reply: Reply,
@@ -24,6 +24,7 @@ pub struct Effect {
     pub waits: bool,
 }
 
+// The state that is left, and the result. It goes to C, so it holds a number.
 #[repr(C)]
 #[derive(Clone, Copy)]
 pub struct Answer {
@@ -31,34 +32,26 @@ pub struct Answer {
     pub result: u8,
 }
 
-// What a reply leaves: the pending request, how many frames wait, and the result.
-#[repr(C)]
+// What a reply leaves: the pending request, and whether it found a place among the frames that wait.
 #[derive(Clone, Copy)]
 pub struct Said {
     pub pending: PendingRequest,
-    pub frames: u8,
-    pub result: u8,
+    pub done: Result<(), Refusal>,
 }
 
 fn pends(reply: Reply) -> bool
     ensures { result ≡ pends_of reply }
 {
-    match reply {
-        Reply::Silent => false,
-        Reply::Positive(_) => false,
-        Reply::Negative(_) => false,
-        Reply::Always(_) => false,
-        Reply::Pends => true,
-    }
+    matches!(reply, Reply::Pends)
 }
 
 // The request is pending: 0x78 is due again P2* of the session later, or at the clock's end.
 pub fn awaiting(config: &Config, session: u8, to: u32, sid: u8, t: Instant) -> PendingRequest
     ensures { pending_of result ≡ awaited config.now session to sid t.0 }
 {
-    let found = config::find_session(config, session);
+    let row = config::find_session(config, session);
     PendingRequest {
-        deadline: t.plus(config::p2_ext(config, found)),
+        deadline: t.plus(config::p2_ext(config, row)),
         dst: to,
         sid,
         on: true,
@@ -70,29 +63,23 @@ pub fn replied(
     config: &Config,
     session: u8,
     pending: PendingRequest,
-    frames: u8,
-    functional: bool,
-    heads: &mut Heads,
-    room: &mut Room,
-    to: u32,
-    sid: u8,
+    outbox: &mut Outbox,
+    asker: Asker,
     t: Instant,
     reply: Reply,
 ) -> Said
-    ensures { Replies config.now session pending frames functional heads.old room.old to sid t.0 reply result heads.new room.new }
+    ensures heads { outbox.new.heads.ghost_name ≡ outbox.old.heads.ghost_name }
+    ensures room { outbox.new.room.ghost_name ≡ outbox.old.room.ghost_name }
+    ensures replies { RepliesIn config.now session pending outbox.old asker t.0 reply result outbox.new }
 {
-    let p = queue::reply::answer(frames, heads, room, functional, to, sid, reply);
-    if !pends(reply) {
-        return Said {
-            pending,
-            frames: p.count,
-            result: p.result,
-        };
-    }
+    let done = outbox.answer(asker, reply);
     Said {
-        pending: awaiting(config, session, to, sid, t),
-        frames: p.count,
-        result: p.result,
+        pending: if pends(reply) {
+            awaiting(config, session, asker.to, asker.sid, t)
+        } else {
+            pending
+        },
+        done,
     }
 }
 
@@ -106,49 +93,32 @@ fn chosen(first: bool, a: u8, b: u8) -> u8
 }
 
 // A change that waits is made only where the reply met no result.
-fn is_made(waits: bool, res: u8) -> bool
-    ensures { result ≡ pick waits (nat_eq res 0) true }
+fn is_made(waits: bool, done: Result<(), Refusal>) -> bool
+    ensures { result ≡ pick waits (nat_eq (result_of done) 0) true }
 {
-    if waits {
-        return res == DONE;
-    }
-    true
+    !waits || done.is_ok()
 }
 
-fn both(a: bool, b: bool) -> bool
-    ensures { result ≡ (a && b) }
-{
-    if a {
-        return b;
-    }
-    false
-}
-
-// A request was received at `t`; then the change and the reply, or the reply and, if that was queued, the change. The state is built here alone.
-pub fn apply(
+// The change and the reply, or the reply and, if that was queued, the change. The state is built here alone.
+fn changed(
     config: &Config,
     s: State,
     k: &mut Security,
-    heads: &mut Heads,
-    room: &mut Room,
-    to: u32,
-    sid: u8,
+    outbox: &mut Outbox,
+    asker: Asker,
     t: Instant,
-    functional: bool,
     e: Effect,
 ) -> Answer
-    ensures { Applies config.now s k.old heads.old room.old to sid t.0 functional e result k.new heads.new room.new }
+    requires { s.frames ≡ outbox.old.count }
+    ensures heads { outbox.new.heads.ghost_name ≡ outbox.old.heads.ghost_name }
+    ensures room { outbox.new.room.ghost_name ≡ outbox.old.room.ghost_name }
+    ensures applies { Applies config.now s k.old outbox.old.heads.now outbox.old.room.now asker.to asker.sid t.0 asker.functional e result k.new outbox.new.heads.now outbox.new.room.now }
 {
     let session = s.session;
-    let pending = s.pending;
-    let reply = e.reply;
     let at = chosen(e.waits, session.session_type, e.session);
-    let p = replied(
-        config, at, pending, s.frames, functional, heads, room, to, sid, t, reply,
-    );
-    let made = is_made(e.waits, p.result);
-    security::settle(k, both(made, e.clears_seed));
-    let then = p.pending;
+    let said = replied(config, at, s.pending, outbox, asker, t, e.reply);
+    let made = is_made(e.waits, said.done);
+    security::settle(k, made && e.clears_seed);
     Answer {
         state: State {
             session: SessionState {
@@ -156,11 +126,32 @@ pub fn apply(
                 session_type: chosen(made, e.session, session.session_type),
                 level: chosen(made, e.level, session.level),
             },
-            pending: then,
-            functional,
+            pending: said.pending,
+            functional: asker.functional,
             subscriptions: chosen(made, e.subscriptions, s.subscriptions),
-            frames: p.frames,
+            frames: outbox.count,
         },
-        result: p.result,
+        result: number(said.done),
     }
+}
+
+// A request was received at `t`, and what a service wants is carried out.
+pub fn apply(
+    config: &Config,
+    s: State,
+    k: &mut Security,
+    heads: &mut Heads,
+    room: &mut Room,
+    asker: Asker,
+    t: Instant,
+    e: Effect,
+) -> Answer
+    ensures { Applies config.now s k.old heads.old room.old asker.to asker.sid t.0 asker.functional e result k.new heads.new room.new }
+{
+    let mut outbox = Outbox {
+        count: s.frames,
+        heads,
+        room,
+    };
+    changed(config, s, k, &mut outbox, asker, t, e)
 }

@@ -17,7 +17,7 @@ use uds::clock::Instant;
 
 // The session, the held security level, and when the last request came.
 #[repr(C)]
-#[derive(Clone, Copy)]
+#[derive(Clone, Copy, PartialEq, Eq)]
 pub struct SessionState {
     pub last_rx: Instant,
     pub session_type: u8,
@@ -39,16 +39,18 @@ impl SessionState {
     pub fn opened(self, session_type: u8) -> SessionState
         ensures { session_of result ≡ Model.opened (session_of self) session_type }
     {
-        let mut next = self;
-        next.session_type = session_type;
-        next.level = 0;
-        next
+        SessionState {
+            last_rx: self.last_rx,
+            session_type,
+            ..SessionState::new()
+        }
     }
 }
 
-// A request that was answered 0x78, if one was: whom to answer, for which service, and when 0x78 is due again.
+// A request that was answered 0x78, if one was: whom to answer, for which service, and when 0x78 is due again. It says by a flag
+// whether there is one, since C hands the state by value and an exported function takes no Option.
 #[repr(C)]
-#[derive(Clone, Copy)]
+#[derive(Clone, Copy, PartialEq, Eq)]
 pub struct PendingRequest {
     pub deadline: Instant,
     pub dst: u32,
@@ -72,7 +74,7 @@ impl PendingRequest {
 
 // Forty bytes. How many subscriptions stand and how many frames wait is counted here; they themselves are lent.
 #[repr(C)]
-#[derive(Clone, Copy)]
+#[derive(Clone, Copy, PartialEq, Eq)]
 pub struct State {
     pub session: SessionState,
     pub pending: PendingRequest,
@@ -86,12 +88,11 @@ impl State {
     pub fn new() -> State
         ensures { (config k subs heads room : List ℕ) → security_of k ≡ Model.fresh_security → state_of config result k subs heads room ≡ Model.fresh_state (config_of config) }
     {
-        let periodic = PeriodicState::new();
         State {
             session: SessionState::new(),
             pending: PendingRequest::new(),
             functional: false,
-            subscriptions: periodic.count,
+            subscriptions: PeriodicState::new().count,
             frames: 0,
         }
     }

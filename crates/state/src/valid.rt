@@ -15,11 +15,7 @@ impl PendingRequest {
     pub fn is_valid(self) -> bool
         ensures { result ≡ Model.pending_valid (pending_of self) }
     {
-        if self.on {
-            let deadline = self.deadline;
-            return deadline.is_valid();
-        }
-        true
+        !self.on || self.deadline.is_valid()
     }
 }
 
@@ -34,23 +30,10 @@ pub fn is_valid(
 ) -> bool
     ensures { result ≡ Model.valid max_frame (state_of config.now s k.now subs.now heads.now room.now) }
 {
-    if !config::within(config) {
-        return false;
-    }
-    let session = s.session;
-    let last_rx = session.last_rx;
-    if !last_rx.is_valid() {
-        return false;
-    }
-    if !security::is_valid(k) {
-        return false;
-    }
-    if !periodic::subscriptions_valid(subs, s.subscriptions) {
-        return false;
-    }
-    let pending = s.pending;
-    if !pending.is_valid() {
-        return false;
-    }
-    queue::drain::frames_valid(s.frames, heads, room)
+    config::within(config)
+        && s.session.last_rx.is_valid()
+        && security::is_valid(k)
+        && periodic::subscriptions_valid(subs, s.subscriptions)
+        && s.pending.is_valid()
+        && queue::drain::frames_valid(s.frames, heads, room)
 }

@@ -9,7 +9,7 @@ ghost use Rattle.state_bench.specs.Wanted.{wanted};
 
 use config::Config;
 use periodic::Subscriptions;
-use queue::reply::Reply;
+use queue::reply::{Asker, Reply};
 use queue::{Heads, Room};
 use security::Security;
 use state::State;
@@ -68,6 +68,11 @@ pub extern "C" fn bench_apply(
     ensures { Applies config.now s k.old heads.old room.old to sid t.0 functional (record { reply = wanted kind n; session = session; level = level; subscriptions = subscriptions; waits = waits; clears_seed = clears_seed }) result k.new heads.new room.new }
 {
     let said = reply(kind, n);
+    let asker = Asker {
+        functional,
+        to,
+        sid,
+    };
     let e = Effect {
         reply: said,
         session,
@@ -76,5 +81,5 @@ pub extern "C" fn bench_apply(
         waits,
         clears_seed,
     };
-    state::apply::apply(config, s, k, heads, room, to, sid, t, functional, e)
+    state::apply::apply(config, s, k, heads, room, asker, t, e)
 }

@@ -22,13 +22,13 @@ pub(crate) fn fresh(rt: &HostRuntime, c: &Config) -> io::Result<()> {
     let pending = s.pending;
     Line::new()
         .text(b"fresh:")
-        .number(session.session_type as u64)
-        .number(session.level as u64)
+        .number(u64::from(session.session_type))
+        .number(u64::from(session.level))
         .number(session.last_rx.0)
         .flag(s.functional)
         .flag(pending.on)
-        .number(s.subscriptions as u64)
-        .number(s.frames as u64)
+        .number(u64::from(s.subscriptions))
+        .number(u64::from(s.frames))
         .flag(valid(c, s))
         .print(rt)?;
     Ok(())

@@ -2,13 +2,22 @@
 use super::edges::received;
 use config::Config;
 use lines::Line;
-use queue::reply::Reply;
+use queue::reply::{Asker, Reply};
 use queue::{Heads, Room};
 use security::Security;
 use state::State;
 use state::apply::{Effect, apply};
 use std::io;
 use uds::clock::Instant;
+
+// The tester, by a request that was addressed so.
+fn tester(functional: bool) -> Asker {
+    Asker {
+        functional,
+        to: 3712,
+        sid: 0x31,
+    }
+}
 
 // Session 3 opened, and a reply.
 fn effect(reply: Reply, waits: bool) -> Effect {
@@ -40,10 +49,8 @@ fn carried(
         &mut [0; 68],
         heads,
         room,
-        3712,
-        0x31,
+        tester(functional),
         Instant(t),
-        functional,
         e,
     );
     let state = a.state;
@@ -51,9 +58,9 @@ fn carried(
     let pending = state.pending;
     Line::new()
         .text(what)
-        .number(a.result as u64)
-        .number(session.session_type as u64)
-        .number(state.frames as u64)
+        .number(u64::from(a.result))
+        .number(u64::from(session.session_type))
+        .number(u64::from(state.frames))
         .flag(pending.on)
         .number(pending.deadline.0)
         .print(rt)?;
@@ -179,21 +186,19 @@ fn seeded(
         &mut k,
         &mut [1; 32],
         &mut [0; 4353],
-        3712,
-        0x31,
+        tester(functional),
         Instant(100),
-        functional,
         e,
     );
     let state = a.state;
     let then = state.session;
     Line::new()
         .text(what)
-        .number(a.result as u64)
+        .number(u64::from(a.result))
         .number(k[0])
-        .number(then.session_type as u64)
-        .number(then.level as u64)
-        .number(state.subscriptions as u64)
+        .number(u64::from(then.session_type))
+        .number(u64::from(then.level))
+        .number(u64::from(state.subscriptions))
         .number(then.last_rx.0)
         .flag(state.functional)
         .print(rt)?;

@@ -15,11 +15,9 @@ use uds::clock::Instant;
 use uds::rows::SessionConfig;
 
 fn sessions(mut c: Config, n: u8) -> Config {
-    let mut i: u8 = 0;
-    while i < n {
+    for _ in 0..n {
         let next = build::with_session(c, SessionConfig::default_session());
         c = next;
-        i += 1;
     }
     c
 }
@@ -34,8 +32,8 @@ fn opened(rt: &HostRuntime) -> io::Result<()> {
     let next = session.opened(3);
     Line::new()
         .text(b"opened:")
-        .number(next.session_type as u64)
-        .number(next.level as u64)
+        .number(u64::from(next.session_type))
+        .number(u64::from(next.level))
         .number(next.last_rx.0)
         .print(rt)?;
     Ok(())

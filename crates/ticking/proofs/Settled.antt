@@ -22,8 +22,7 @@ use Rattle.state.specs.View.{session_of, beside}
 use Rattle.state.specs.declared.SessionState.{SessionState}
 use Rattle.state.specs.declared.PendingRequest.{PendingRequest}
 use Rattle.state.proofs.Settled.{SameSaid, same-said, session, cleared_alike}
-use Rattle.ticking.specs.View.{expired_of, Lapses, passed_of, Sends}
-use Rattle.ticking.specs.declared.Sent.{Sent}
+use Rattle.ticking.specs.View.{expired_of, Lapses, Sent, sent_of, passed_of, Sends}
 use Rattle.ticking.proofs.s3.Reads as s3
 use Rattle.ticking.proofs.refreshed.Reads as refreshed
 use Rattle.ticking.proofs.send_due.Reads as send-due
@@ -50,10 +49,10 @@ lapsed {w} {k} {k'} {k''} {a} {r} {r'} {t} p q = record {
 pub s3_settled : (κs : _) (a : _) → Settles (s3.Post κs a) (λ x e y f. SameLapsed x y e.1.1.0.now f.1.1.0.now)
 s3_settled κs a x e y f p q = lapsed p q
 
-pub refreshed_settled : (κs : _) (a : _) → Settles (refreshed.Post κs a) (λ x e y f. SameSaid x y e.1.1.1.1.0.now f.1.1.1.1.0.now e.1.1.1.1.1.0.now f.1.1.1.1.1.0.now)
+pub refreshed_settled : (κs : _) (a : _) → Settles (refreshed.Post κs a) (λ x e y f. SameSaid x y e.1.1.1.0.now f.1.1.1.0.now)
 refreshed_settled κs a x e y f p q =
     let at : Session = record { session_type = a.1.0; level = 0; last_rx = 0 } in
-    same-said a.0.now at false x y e.1.1.1.1.0.now f.1.1.1.1.0.now e.1.1.1.1.1.0.now f.1.1.1.1.1.0.now (said (p.step at Model.fresh_security [] false refl) (q.step at Model.fresh_security [] false refl))
+    same-said a.0.now at false x y e.1.1.1.0.now f.1.1.1.0.now (said (p.1.1.step at Model.fresh_security [] false refl) (q.1.1.step at Model.fresh_security [] false refl))
 
 -- the due subscriptions: the answer, the table and the queue; beyond sixteen, every word and byte
 pub record SameSent (count : ℕ) (r r' : Sent) (subs subs' heads heads' room room' : List ℕ) : Type 0 where
@@ -93,5 +92,5 @@ passed {subs = subs} {subs'} {heads} {heads'} {room} {room'} {count} {r = r} {r'
           lent = lent;
         }
 
-pub send_due_settled : (κs : _) (a : _) → Settles (send-due.Post κs a) (λ x e y f. SameSent a.1.0 x y e.0.now f.0.now e.1.1.1.0.now f.1.1.1.0.now e.1.1.1.1.0.now f.1.1.1.1.0.now)
-send_due_settled κs a x e y f p q = passed p q
+pub send_due_settled : (κs : _) (a : _) → Settles (send-due.Post κs a) (λ x e y f. SameSent a.1.0 (sent_of x e.1.1.0.now) (sent_of y f.1.1.0.now) e.0.now f.0.now e.1.1.0.now.heads.now f.1.1.0.now.heads.now e.1.1.0.now.room.now f.1.1.0.now.room.now)
+send_due_settled κs a x e y f p q = passed p.1.1 q.1.1

@@ -17,8 +17,6 @@ use Rattle.model.specs.Reply.{taken, begun}
 use Rattle.model.specs.Tick.{s3}
 use Rattle.config.specs.View.{config_of}
 use Rattle.queue.specs.View.{queue_of}
-use Rattle.queue.specs.View as Queue
-use Rattle.queue.specs.declared.reply.Pushed.{Pushed}
 use Rattle.security.specs.View.{security_of, ClearsIf}
 use Rattle.state.specs.View.{session_of, pending_of, beside, made_at, awaited}
 use Rattle.state.specs.declared.SessionState.{SessionState}
@@ -51,7 +49,7 @@ module _ (w : List ℕ) (a : SessionState) (t : Moment) where
 
 -- the pending request
 module _ (w : List ℕ) (session : ℕ) (pending : PendingRequest) (frames : ℕ) (heads room : List ℕ) (t : Moment) where
-  pub not_yet : due_of (pending_of pending) t ≡ false → Refreshes w session pending frames heads room t (record { pending = pending; frames = frames; result = 0 }) heads room
+  pub not_yet : due_of (pending_of pending) t ≡ false → Refreshes w session pending frames heads room t pending 0 frames heads room
   not_yet e = record { step = λ a k table functional z. waits (beside w a k table pending functional frames heads room) (pending_of pending) e }
     where
       waits : (s : Model.State) (o : Option Model.PendingRequest) → due_of o t ≡ false → step 0 s ≡ refreshed_at s t (made_at w session t) o
@@ -59,11 +57,11 @@ module _ (w : List ℕ) (session : ℕ) (pending : PendingRequest) (frames : ℕ
       waits s (some p) e = rw e
 
   -- the new deadline stands whatever becomes of 0x78
-  pub anew : (x : PendingRequest) (p : Pushed) (heads' room' : List ℕ) → due_of (pending_of pending) t ≡ true → pending_of x ≡ awaited w session pending.dst pending.sid t
-      → Queue.step_of p heads' room' ≡ pushed (queue_of frames heads room) pending.dst (negative_frame pending.sid 0x78)
-      → Refreshes w session pending frames heads room t (record { pending = x; frames = p.count; result = p.result }) heads' room'
+  pub anew : (x : PendingRequest) (n' frames' : ℕ) (heads' room' : List ℕ) → due_of (pending_of pending) t ≡ true → pending_of x ≡ awaited w session pending.dst pending.sid t
+      → record { result = n'; queue = queue_of frames' heads' room' } ≡ pushed (queue_of frames heads room) pending.dst (negative_frame pending.sid 0x78)
+      → Refreshes w session pending frames heads room t x n' frames' heads' room'
   unfolding begun
-  anew x p heads' room' d n q = record {
+  anew x n' frames' heads' room' d n q = record {
     step = λ a k table functional z.
         let s = beside w a k table pending functional frames heads room in
         ap₂ (λ (o : Option Model.PendingRequest) (y : QueueStep). taken (with_pending s o) y)

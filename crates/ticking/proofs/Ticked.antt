@@ -24,10 +24,8 @@ use Rattle.state.specs.View.{session_of, pending_of, beside, state_of}
 use Rattle.state.specs.declared.SessionState.{SessionState}
 use Rattle.state.specs.declared.PendingRequest.{PendingRequest}
 use Rattle.state.specs.declared.State.{State}
-use Rattle.state.specs.declared.apply.Said.{Said}
 use Rattle.state.proofs.Applied.{made_now}
-use Rattle.ticking.specs.View.{Lapses, refreshed_at, Refreshes, pass_one_at, pass_all_at, Sends}
-use Rattle.ticking.specs.declared.Sent.{Sent}
+use Rattle.ticking.specs.View.{Lapses, refreshed_at, Refreshes, pass_one_at, pass_all_at, Sent, Sends}
 
 -- a pending request refreshed now is the definition's
 now-refreshed : (s : Model.State) (t : Moment) (o : Option Model.PendingRequest) → refreshed_at s t t o ≡ refreshed s t o
@@ -64,12 +62,12 @@ module _ (w : List ℕ) (s : State) (k subs heads room : List ℕ) (t : Moment) 
     taken = rw (v, le-leb t max_time h)
 
     module _ (a : SessionState) (k' : List ℕ) (p : Lapses w s.session k t a k')
-        (r : Said) (heads1 room1 : List ℕ) (q : Refreshes w a.session_type s.pending s.frames heads room t r heads1 room1) where
+        (pending' : PendingRequest) (n' frames' : ℕ) (heads1 room1 : List ℕ) (q : Refreshes w a.session_type s.pending s.frames heads room t pending' n' frames' heads1 room1) where
       -- S3 and the pending request
       abbrev then : Model.State
-      then = state_of w (leaving a r.pending r.frames) k' subs heads1 room1
+      then = state_of w (leaving a pending' frames') k' subs heads1 room1
 
-      pends : step r.result then ≡ refreshed (s3 before t) t (pending_of s.pending)
+      pends : step n' then ≡ refreshed (s3 before t) t (pending_of s.pending)
       pends =
           let x = beside w (session_of a) (security_of k') (table_of s.subscriptions subs) s.pending s.functional s.frames heads room in
           q.step (session_of a) (security_of k') (table_of s.subscriptions subs) s.functional refl
@@ -77,27 +75,27 @@ module _ (w : List ℕ) (s : State) (k subs heads room : List ℕ) (t : Moment) 
           ∙ now-refreshed x t (pending_of s.pending)
           ∙ ap (λ (y : Model.State). refreshed y t (pending_of s.pending)) (p.state (table_of s.subscriptions subs) s.pending s.functional s.frames heads room)
 
-      goes : then_periodic max_frame t (Values.table_of values pool) (step r.result then) ≡ ticked max_frame before t (Values.table_of values pool)
+      goes : then_periodic max_frame t (Values.table_of values pool) (step n' then) ≡ ticked max_frame before t (Values.table_of values pool)
       goes = ap (then_periodic max_frame t (Values.table_of values pool)) pends
 
       -- the pending step met 3, and the tick ends
-      pub met_3 : (r.result ≡ 0 → ⊥) → record { err = 0; step = step r.result then } ≡ ticked max_frame before t (Values.table_of values pool)
+      pub met_3 : (n' ≡ 0 → ⊥) → record { err = 0; step = step n' then } ≡ ticked max_frame before t (Values.table_of values pool)
       unfolding then_periodic
-      met_3 n = rw (ne_eqb r.result 0 n) at goes
+      met_3 n = rw (ne_eqb n' 0 n) at goes
 
-      pub tick_3 : (r.result ≡ 0 → ⊥) → record { err = 0; step = step r.result then } ≡ after
+      pub tick_3 : (n' ≡ 0 → ⊥) → record { err = 0; step = step n' then } ≡ after
       tick_3 n = met_3 n ∙ taken
 
       -- it met none, and the due subscriptions are sent
-      pub sent : (x : Sent) (subs' heads' room' : List ℕ) → r.result ≡ 0 → Sends subs s.subscriptions r.frames heads1 room1 t (Values.table_of values pool) x subs' heads' room'
-          → record { err = x.err; step = step x.result (state_of w (leaving a r.pending x.frames) k' subs' heads' room') } ≡ ticked max_frame before t (Values.table_of values pool)
+      pub sent : (x : Sent) (subs' heads' room' : List ℕ) → n' ≡ 0 → Sends subs s.subscriptions frames' heads1 room1 t (Values.table_of values pool) x subs' heads' room'
+          → record { err = x.err; step = step x.result (state_of w (leaving a pending' x.frames) k' subs' heads' room') } ≡ ticked max_frame before t (Values.table_of values pool)
       unfolding then_periodic
       sent x subs' heads' room' n d =
           let table = (valid_parts max_frame before v).periodic in
           ap (dispatched then)
           (d.passed (valid-count s.subscriptions subs table) ∙ all-now max_frame t (Values.table_of values pool) h (table_of s.subscriptions subs) _ (within_all max_periodic subscription_valid (table_of s.subscriptions subs) table))
-          ∙ rw (eq-eqb r.result 0 n) at goes
+          ∙ rw (eq-eqb n' 0 n) at goes
 
-      pub tick-sent : (x : Sent) (subs' heads' room' : List ℕ) → r.result ≡ 0 → Sends subs s.subscriptions r.frames heads1 room1 t (Values.table_of values pool) x subs' heads' room'
-          → record { err = x.err; step = step x.result (state_of w (leaving a r.pending x.frames) k' subs' heads' room') } ≡ after
+      pub tick-sent : (x : Sent) (subs' heads' room' : List ℕ) → n' ≡ 0 → Sends subs s.subscriptions frames' heads1 room1 t (Values.table_of values pool) x subs' heads' room'
+          → record { err = x.err; step = step x.result (state_of w (leaving a pending' x.frames) k' subs' heads' room') } ≡ after
       tick-sent x subs' heads' room' n d = sent x subs' heads' room' n d ∙ taken

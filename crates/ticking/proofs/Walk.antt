@@ -20,29 +20,31 @@ use Rattle.model.proofs.Laws.{either}
 use Rattle.uds.specs.Clock.{starts}
 use Rattle.uds.specs.Table.{tab}
 use Rattle.uds.proofs.Tab.{tab_cons, tab-end, tab-same, tab_snoc, tab-all}
-use Rattle.queue.specs.View.{queue_of, draft_of, step_of, Drafts}
-use Rattle.queue.specs.declared.draft.Drafted.TheVariants.{Going, TooLong}
-use Rattle.queue.specs.declared.reply.Pushed.{Pushed}
+use Rattle.queue.specs.View.{queue_of, draft_of, Drafts}
+use Rattle.std.specs.Prelude.{Some, None}
 use Rattle.queue.proofs.Laws.{sent-long}
 use Rattle.periodic.specs.View.{entry_at, table_of, due_at, Advances}
-use Rattle.ticking.specs.View.{due_one, pass_one_at, pass_all_at, so_far, passed_of, Goes, Sends}
-use Rattle.ticking.specs.declared.Sent.{Sent}
+use Rattle.ticking.specs.View.{due_one, pass_one_at, pass_all_at, so_far, Sent, passed_of, Goes, Sends}
+
+-- what a push leaves, in numbers
+abbrev step_at : ℕ → ℕ → List ℕ → List ℕ → QueueStep
+step_at n c heads room = record { result = n; queue = queue_of c heads room }
 
 -- a value as a frame
 module _ (frames to first : ℕ) (heads room value after : List ℕ) where
-  abbrev Sending : Pushed → List ℕ → List ℕ → Type 0
-  Sending p heads' room' = step_of p heads' room' ≡ sent max_frame (queue_of frames heads room) to (first ∷ value)
+  abbrev Sending : ℕ → ℕ → List ℕ → List ℕ → Type 0
+  Sending n c heads' room' = step_at n c heads' room' ≡ sent max_frame (queue_of frames heads room) to (first ∷ value)
 
-  pub exceeds : Drafts frames 0 value room TooLong after → Sending (record { result = 4; count = frames }) heads after
+  pub exceeds : Drafts frames 0 value room None after → Sending 4 frames heads after
   exceeds d = ap (leaves 4) (d.unseen heads) ∙ sent-long (queue_of frames heads room) to (first ∷ value) (long (leb (0 + length value) max_frame) refl d.reading)
     where
       long : (b : Bool) → leb (0 + length value) max_frame ≡ b → ended (negative 0x14) ≡ pick b (going ([] ++ value)) (ended (negative 0x14)) → max_frame < suc (length value)
       long true e z = let y : ◌≡◌ {A = ℕ} 0 1 = cc in absurd (omega arith)
       long false e z = omega (arith, leb-false (0 + length value) max_frame e)
 
-  pub made : (len : ℕ) (p : Pushed) (heads' room' : List ℕ) → Drafts frames 0 value room (Going len) after
-      → step_of p heads' room' ≡ sent max_frame (queue_of frames heads after) to (first ∷ draft_of frames len after) → Sending p heads' room'
-  made len p heads' room' d e = e ∙ ap₂ (λ (q : List Frame) (b : List ℕ). sent max_frame q to (first ∷ b)) (d.unseen heads) (whole (leb (0 + length value) max_frame) d.reading)
+  pub made : (len n c : ℕ) (heads' room' : List ℕ) → Drafts frames 0 value room (Some len) after
+      → step_at n c heads' room' ≡ sent max_frame (queue_of frames heads after) to (first ∷ draft_of frames len after) → Sending n c heads' room'
+  made len n c heads' room' d e = e ∙ ap₂ (λ (q : List Frame) (b : List ℕ). sent max_frame q to (first ∷ b)) (d.unseen heads) (whole (leb (0 + length value) max_frame) d.reading)
     where
       whole : (b : Bool) → going (draft_of frames len after) ≡ pick b (going ([] ++ value)) (ended (negative 0x14)) → draft_of frames len after ≡ value
       whole true z = cc
@@ -73,27 +75,27 @@ module _ (subs : List ℕ) (i frames : ℕ) (heads room : List ℕ) (t : Moment)
   unfolding due_sent
   value-error code v = record { passed = said (Model.error code) v; clean = λ z. absurd (omega arith); others = λ j n. refl }
 
-  module _ (b : List ℕ) (v : Model.bytes b ≡ value max_frame table e.identifier) (p : Pushed) (heads' room' : List ℕ)
-      (q : step_of p heads' room' ≡ sent max_frame (queue_of frames heads room) e.client (e.identifier % 256 ∷ b)) where
-    queues : step_of p heads' room' ≡ sent max_frame (queue_of frames heads room) (entry_at subs i).client ((entry_at subs i).identifier % 256 ∷ b)
+  module _ (b : List ℕ) (v : Model.bytes b ≡ value max_frame table e.identifier) (n' c' : ℕ) (heads' room' : List ℕ)
+      (q : step_at n' c' heads' room' ≡ sent max_frame (queue_of frames heads room) e.client (e.identifier % 256 ∷ b)) where
+    queues : step_at n' c' heads' room' ≡ sent max_frame (queue_of frames heads room) (entry_at subs i).client ((entry_at subs i).identifier % 256 ∷ b)
     queues = q ∙ ap (λ (x : Subscription). sent max_frame (queue_of frames heads room) x.client (x.identifier % 256 ∷ b)) is
 
     -- by what became of its frame
-    goes : (es : List Subscription) → passed (starts t (entry_at subs i).interval) (so_far es (queue_of frames heads room)) (entry_at subs i) (step_of p heads' room') ≡ due_one max_frame t table (so_far es (queue_of frames heads room)) (entry_at subs i)
+    goes : (es : List Subscription) → passed (starts t (entry_at subs i).interval) (so_far es (queue_of frames heads room)) (entry_at subs i) (step_at n' c' heads' room') ≡ due_one max_frame t table (so_far es (queue_of frames heads room)) (entry_at subs i)
     unfolding due_sent
     goes es = ap (passed (starts t (entry_at subs i).interval) (so_far es (queue_of frames heads room)) (entry_at subs i)) queues ∙ said (Model.bytes b) v es
 
-    pub frame_met : (p.result ≡ 0 → ⊥) → Going_on (record { frames = p.count; result = p.result; err = 0 }) subs heads' room'
+    pub frame_met : (n' ≡ 0 → ⊥) → Going_on (record { frames = c'; result = n'; err = 0 }) subs heads' room'
     unfolding passed
-    frame_met n = record { passed = λ es. ap (λ (x : List Frame). record { result = p.result; err = 0; entries = es ++ (entry_at subs i ∷ []); queue = x }) same ∙ rw (ne_eqb p.result 0 n) at (goes es); clean = λ z. refl; others = λ j z. refl }
+    frame_met n = record { passed = λ es. ap (λ (x : List Frame). record { result = n'; err = 0; entries = es ++ (entry_at subs i ∷ []); queue = x }) same ∙ rw (ne_eqb n' 0 n) at (goes es); clean = λ z. refl; others = λ j z. refl }
       where
-        same : queue_of p.count heads' room' ≡ queue_of frames heads room
+        same : queue_of c' heads' room' ≡ queue_of frames heads room
         same = ap (λ (x : QueueStep). x.queue) q ∙ sent_stays (queue_of frames heads room) e.client (e.identifier % 256 ∷ b) (λ z. n (ap (λ (x : QueueStep). x.result) q ∙ z))
 
-    pub frame-sent : (subs' : List ℕ) (count : ℕ) → p.result ≡ 0 → count ≤ max_periodic → i < count → Advances subs count i t subs' → Going_on (record { frames = p.count; result = p.result; err = 0 }) subs' heads' room'
+    pub frame-sent : (subs' : List ℕ) (count : ℕ) → n' ≡ 0 → count ≤ max_periodic → i < count → Advances subs count i t subs' → Going_on (record { frames = c'; result = n'; err = 0 }) subs' heads' room'
     unfolding passed
     frame-sent subs' count n l h a = record {
-      passed = λ es. ap₂ (λ (m : ℕ) (x : Subscription). record { result = m; err = 0; entries = es ++ (x ∷ []); queue = queue_of p.count heads' room' }) n (a.here l h) ∙ rw (eq-eqb p.result 0 n) at (goes es);
+      passed = λ es. ap₂ (λ (m : ℕ) (x : Subscription). record { result = m; err = 0; entries = es ++ (x ∷ []); queue = queue_of c' heads' room' }) n (a.here l h) ∙ rw (eq-eqb n' 0 n) at (goes es);
       clean = λ z. refl;
       others = a.others;
     }

@@ -9,7 +9,9 @@ use Rattle.model.specs.State.{Session, Security, Subscription, State, Step, step
 use Rattle.model.specs.State as Model
 use Rattle.model.specs.Reply.{begun}
 use Rattle.model.specs.Tick.{expired, s3, Passed, kept, due_sent}
+use Rattle.std.specs.Prelude.{Result, Ok, Err}
 use Rattle.uds.specs.Clock.{starts}
+use Rattle.uds.specs.Result.{number_of}
 use Rattle.config.specs.View.{config_of}
 use Rattle.queue.specs.View.{queue_of}
 use Rattle.periodic.specs.View.{entry_at, table_of}
@@ -17,8 +19,8 @@ use Rattle.security.specs.View.{security_of, ClearsIf}
 use Rattle.state.specs.View.{session_of, pending_of, beside, made_at}
 use Rattle.state.specs.declared.SessionState.{SessionState}
 use Rattle.state.specs.declared.PendingRequest.{PendingRequest}
-use Rattle.state.specs.declared.apply.Said.{Said}
-use Rattle.ticking.specs.declared.Sent.{Sent}
+use Rattle.queue.specs.declared.reply.Outbox.{Outbox}
+use Rattle.ticking.specs.declared.Unsent.{Unsent}
 
 -- S3 asks the configuration and the session alone
 abbrev pub expired_of : List ℕ → SessionState → Moment → Bool
@@ -40,10 +42,10 @@ abbrev pub refreshed_at : State → Moment → Moment → Option Model.PendingRe
 refreshed_at s now made none = step 0 s
 refreshed_at s now made (some p) = pick (nat_le p.deadline now) (begun s p.dst p.sid made) (step 0 s)
 
--- the pending request refreshed in a session: 0x78 falls due again on the clock
-pub record Refreshes (config : List ℕ) (session : ℕ) (pending : PendingRequest) (frames : ℕ) (heads room : List ℕ) (t : Moment) (r : Said) (heads' room' : List ℕ) : Type 0 where
+-- the pending request refreshed in a session: 0x78 falls due again on the clock; the pending request that is left, the result, and how many frames wait
+pub record Refreshes (config : List ℕ) (session : ℕ) (pending : PendingRequest) (frames : ℕ) (heads room : List ℕ) (t : Moment) (pending' : PendingRequest) (result frames' : ℕ) (heads' room' : List ℕ) : Type 0 where
   pub step : (a : Session) (k : Security) (table : List Subscription) (functional : Bool) → a.session_type ≡ session
-      → step r.result (beside config a k table r.pending functional r.frames heads' room')
+      → step result (beside config a k table pending' functional frames' heads' room')
       ≡ refreshed_at (beside config a k table pending functional frames heads room) t (made_at config session t) (pending_of pending)
 
 -- a due entry is sent, and advanced on the clock
@@ -61,6 +63,16 @@ pass_all_at limit now t (e ∷ es) a = pass_all_at limit now t es (pass_one_at l
 -- the periodic step so far, with no result met
 abbrev pub so_far : List Subscription → List Frame → Passed
 so_far es q = record { result = 0; err = 0; entries = es; queue = q }
+
+-- what the due subscriptions leave in numbers: how many frames wait, the result, and the error byte that comes with 8
+pub record Sent : Type 0 where
+  pub frames : ℕ
+  pub result : ℕ
+  pub err : ℕ
+
+abbrev pub sent_of : Result (Unit {0}) Unsent → Outbox → Sent
+sent_of (Ok done) o = record { frames = o.count; result = 0; err = 0 }
+sent_of (Err unsent) o = record { frames = o.count; result = number_of unsent.why; err = unsent.err }
 
 abbrev pub passed_of : Sent → List Subscription → List ℕ → List ℕ → Passed
 passed_of r es heads room = record { result = r.result; err = r.err; entries = es; queue = queue_of r.frames heads room }

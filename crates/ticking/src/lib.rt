@@ -5,34 +5,30 @@
 ghost use Rattle.std.specs.Prelude.{◌≡◌, ◌<◌, ◌≤◌, ◌∷◌};
 ghost use Rattle.model.specs.Numbers.{max_frame, max_periodic};
 ghost use Rattle.model.specs.Queue as Definition;
+ghost use Rattle.uds.specs.Result.{result_of};
 ghost use Rattle.uds.specs.Values.{table_of};
-ghost use Rattle.queue.specs.View.{queue_of, step_of};
+ghost use Rattle.queue.specs.View.{queue_in, step_in};
 ghost use Rattle.state.specs.View.{pending_of};
-ghost use Rattle.ticking.specs.View.{expired_of, due_of, Lapses, Refreshes, Goes, Sends};
+ghost use Rattle.ticking.specs.View.{expired_of, due_of, sent_of, Lapses, Refreshes, Goes, Sends};
 
 use config::Config;
 use periodic::Subscriptions;
-use queue::draft::Drafted;
-use queue::reply::Pushed;
-use queue::{Heads, Room};
+use queue::reply::Outbox;
 use security::Security;
 use state::apply::Said;
 use state::{PendingRequest, SessionState};
 use uds::clock::Instant;
 use uds::nrc::Nrc;
-use uds::result::{DONE, FRAME_TOO_LONG, VALUE_ERROR};
-use uds::values::Outcome;
+use uds::result::Refusal;
 
 const DEFAULT_SESSION: u8 = 1;
 
 const MAX_FRAME: usize = 256;
 
-// What the due subscriptions leave: how many frames wait, the result, and the error byte that comes with 8.
-#[repr(C)]
-#[derive(Clone, Copy)]
-pub struct Sent {
-    pub frames: u8,
-    pub result: u8,
+// Why a due subscription ends the walk, and the error byte that comes with 8.
+#[derive(Clone, Copy, PartialEq, Eq)]
+pub struct Unsent {
+    pub why: Refusal,
     pub err: u8,
 }
 
@@ -43,9 +39,9 @@ fn expired(config: &Config, session: SessionState, t: Instant) -> bool
     if session.session_type == DEFAULT_SESSION {
         return false;
     }
-    let found = config::find_session(config, session.session_type);
+    let row = config::find_session(config, session.session_type);
     let silent = t.since(session.last_rx);
-    silent.exceeds(config::s3(config, found))
+    silent.exceeds(config::s3(config, row))
 }
 
 // S3: session 1 again, no level held, and the seed is overwritten.
@@ -64,10 +60,7 @@ pub fn s3(config: &Config, session: SessionState, k: &mut Security, t: Instant) 
 fn is_due(pending: PendingRequest, t: Instant) -> bool
     ensures { result ≡ due_of (pending_of pending) t.0 }
 {
-    if pending.on {
-        return !t.is_before(pending.deadline);
-    }
-    false
+    pending.on && !t.is_before(pending.deadline)
 }
 
 // At its deadline a request becomes pending anew, and then 0x78 is queued: the new deadline stands also where that meets 3.
@@ -75,54 +68,42 @@ pub fn refreshed(
     config: &Config,
     session: u8,
     pending: PendingRequest,
-    frames: u8,
-    heads: &mut Heads,
-    room: &mut Room,
+    outbox: &mut Outbox,
     t: Instant,
 ) -> Said
-    ensures { Refreshes config.now session pending frames heads.old room.old t.0 result heads.new room.new }
+    ensures heads { outbox.new.heads.ghost_name ≡ outbox.old.heads.ghost_name }
+    ensures room { outbox.new.room.ghost_name ≡ outbox.old.room.ghost_name }
+    ensures refreshes { Refreshes config.now session pending outbox.old.count outbox.old.heads.now outbox.old.room.now t.0 result.pending (result_of result.done) outbox.new.count outbox.new.heads.now outbox.new.room.now }
 {
     if !is_due(pending, t) {
         return Said {
             pending,
-            frames,
-            result: DONE,
+            done: Ok(()),
         };
     }
     let anew = state::apply::awaiting(config, session, pending.dst, pending.sid, t);
-    let p = queue::reply::negative(
-        frames,
-        heads,
-        room,
+    let done = outbox.negative(
         pending.dst,
         pending.sid,
         Nrc::REQUEST_CORRECTLY_RECEIVED_RESPONSE_PENDING,
     );
     Said {
         pending: anew,
-        frames: p.count,
-        result: p.result,
+        done,
     }
 }
 
 // A periodic frame, made where it will wait: 4 where it exceeds a frame.
-fn send_value(
-    frames: u8,
-    heads: &mut Heads,
-    room: &mut Room,
-    to: u32,
-    first: u8,
-    value: &[u8],
-) -> Pushed
-    ensures { step_of result heads.new room.new ≡ Definition.sent max_frame (queue_of frames heads.old room.old) to (first ∷ value.now) }
+fn send_value(outbox: &mut Outbox, to: u32, first: u8, value: &[u8]) -> Result<(), Refusal>
+    ensures heads { outbox.new.heads.ghost_name ≡ outbox.old.heads.ghost_name }
+    ensures room { outbox.new.room.ghost_name ≡ outbox.old.room.ghost_name }
+    ensures step { step_in result outbox.new ≡ Definition.sent max_frame (queue_in outbox.old) to (first ∷ value.now) }
 {
-    let Drafted::Going(len) = queue::draft::extend(room, frames, 0, value) else {
-        return Pushed {
-            result: FRAME_TOO_LONG,
-            count: frames,
-        };
-    };
-    queue::reply::send(frames, heads, room, to, first, len)
+    let count = outbox.count;
+    match queue::draft::extend(&mut *outbox.room, count, 0, value) {
+        Some(len) => outbox.send(to, first, len),
+        None => Err(Refusal::FrameTooLong),
+    }
 }
 
 // One due entry: 8 where its value is an error, else its frame; it is advanced once that is queued.
@@ -130,74 +111,59 @@ fn send_entry(
     subs: &mut Subscriptions,
     count: u8,
     i: usize,
-    frames: u8,
-    heads: &mut Heads,
-    room: &mut Room,
+    outbox: &mut Outbox,
     t: Instant,
     values: &[u32],
     pool: &[u8],
-) -> Sent
+) -> Result<(), Unsent>
     requires { (count ≤ max_periodic) × (i < count) }
-    ensures { Goes subs.old i frames heads.old room.old t.0 (table_of values.now pool.now) result subs.new heads.new room.new }
+    ensures heads { outbox.new.heads.ghost_name ≡ outbox.old.heads.ghost_name }
+    ensures room { outbox.new.room.ghost_name ≡ outbox.old.room.ghost_name }
+    ensures goes { Goes subs.old i outbox.old.count outbox.old.heads.now outbox.old.room.now t.0 (table_of values.now pool.now) (sent_of result outbox.new) subs.new outbox.new.heads.now outbox.new.room.now }
 {
     let e = periodic::entry_at(subs, i);
-    match uds::values::value(values, pool, e.identifier, MAX_FRAME) {
-        Outcome::Error(code) => Sent {
-            frames,
-            result: VALUE_ERROR,
-            err: code,
-        },
-        Outcome::Bytes { start, len } => {
-            let end = start + len;
-            let first = (e.identifier % 256) as u8;
-            let p = send_value(frames, heads, room, e.client, first, &pool[start..end]);
-            let sent = Sent {
-                frames: p.count,
-                result: p.result,
-                err: 0,
-            };
-            if p.result != DONE {
-                return sent;
-            }
+    let value = match uds::values::value(values, pool, e.identifier, MAX_FRAME) {
+        Ok(place) => place,
+        Err(err) => {
+            return Err(Unsent {
+                why: Refusal::ValueError,
+                err,
+            });
+        }
+    };
+    let end = value.start + value.len;
+    let first = (e.identifier % 256) as u8;
+    match send_value(outbox, e.client, first, &pool[value.start..end]) {
+        Err(why) => Err(Unsent { why, err: 0 }),
+        Ok(()) => {
             periodic::advance(subs, count, i, t);
-            sent
+            Ok(())
         }
     }
 }
 
-// The due entries in table order. Sending changes an entry alone, so each is judged as it stood at first. A result ends the walk, and the rest
+// The due entries in table order. Sending changes an entry alone, so each is judged as it stood at first. A refusal ends the walk, and the rest
 // stand. A count that no table has sends nothing.
 pub fn send_due(
     subs: &mut Subscriptions,
     count: u8,
-    frames: u8,
-    heads: &mut Heads,
-    room: &mut Room,
+    outbox: &mut Outbox,
     t: Instant,
     values: &[u32],
     pool: &[u8],
-) -> Sent
-    ensures { Sends subs.old count frames heads.old room.old t.0 (table_of values.now pool.now) result subs.new heads.new room.new }
+) -> Result<(), Unsent>
+    ensures heads { outbox.new.heads.ghost_name ≡ outbox.old.heads.ghost_name }
+    ensures room { outbox.new.room.ghost_name ≡ outbox.old.room.ghost_name }
+    ensures sends { Sends subs.old count outbox.old.count outbox.old.heads.now outbox.old.room.now t.0 (table_of values.now pool.now) (sent_of result outbox.new) subs.new outbox.new.heads.now outbox.new.room.now }
 {
-    let mut sent = Sent {
-        frames,
-        result: DONE,
-        err: 0,
-    };
     if periodic::MAX_PERIODIC < count {
-        return sent;
+        return Ok(());
     }
-    let mut i: usize = 0;
-    while i < count as usize {
+    for i in 0..usize::from(count) {
         if !periodic::due(subs, count, i, t) {
-            i += 1;
             continue;
         }
-        sent = send_entry(subs, count, i, sent.frames, heads, room, t, values, pool);
-        if sent.result != DONE {
-            return sent;
-        }
-        i += 1;
+        send_entry(subs, count, i, outbox, t, values, pool)?;
     }
-    sent
+    Ok(())
 }

@@ -15,23 +15,23 @@ use Rattle.transfer.proofs.service38.service38.Reads as service38
 pub ask34_settled : (κs : _) (a : _) → Settles (ask34.Post κs a) (λ x e y f. asked_act x ≡ asked_act y)
 ask34_settled κs a x e y f p q = same_asked (p blank) (q blank)
 
-pub service34_settled : (κs : _) (a : _) → Settles (service34.Post κs a) (λ x e y f. SameSpoken a.0 x y e.1.1.1.1.0.now f.1.1.1.1.0.now)
+pub service34_settled : (κs : _) (a : _) → Settles (service34.Post κs a) (λ x e y f. SameSpoken a.0.now.frames x y e.1.0.now f.1.0.now)
 service34_settled κs a x e y f p q = same-spoken (p blank) (q blank)
 
 pub ask36_settled : (κs : _) (a : _) → Settles (ask36.Post κs a) (λ x e y f. asked_act x ≡ asked_act y)
 ask36_settled κs a x e y f p q = same_asked (p blank) (q blank)
 
-pub service36_settled : (κs : _) (a : _) → Settles (service36.Post κs a) (λ x e y f. SameSpoken a.0 x y e.1.1.1.1.0.now f.1.1.1.1.0.now)
+pub service36_settled : (κs : _) (a : _) → Settles (service36.Post κs a) (λ x e y f. SameSpoken a.0.now.frames x y e.1.0.now f.1.0.now)
 service36_settled κs a x e y f p q = same-spoken (p blank) (q blank)
 
 pub ask37_settled : (κs : _) (a : _) → Settles (ask37.Post κs a) (λ x e y f. act_of x ≡ act_of y)
 ask37_settled κs a x e y f p q = same_asked (p blank) (q blank)
 
-pub service37_settled : (κs : _) (a : _) → Settles (service37.Post κs a) (λ x e y f. SameSpoken a.0 x y e.1.1.1.1.0.now f.1.1.1.1.0.now)
+pub service37_settled : (κs : _) (a : _) → Settles (service37.Post κs a) (λ x e y f. SameSpoken a.0.now.frames x y e.1.0.now f.1.0.now)
 service37_settled κs a x e y f p q = same-spoken (p blank) (q blank)
 
 pub ask38_settled : (κs : _) (a : _) → Settles (ask38.Post κs a) (λ x e y f. asked_act x ≡ asked_act y)
 ask38_settled κs a x e y f p q = same_asked (p blank) (q blank)
 
-pub service38_settled : (κs : _) (a : _) → Settles (service38.Post κs a) (λ x e y f. SameSpoken a.0 x y e.1.1.1.1.0.now f.1.1.1.1.0.now)
+pub service38_settled : (κs : _) (a : _) → Settles (service38.Post κs a) (λ x e y f. SameSpoken a.0.now.frames x y e.1.0.now f.1.0.now)
 service38_settled κs a x e y f p q = same-spoken (p blank) (q blank)

@@ -7,31 +7,39 @@ ghost use Rattle.service.specs.Seen.{asking, handed, Speaks};
 ghost use Rattle.transfer.specs.Later.{later36};
 
 use queue::Room;
-use service::{Act, Ask, Part, Spoken};
+use service::{Act, Part, Request, Spoken};
 use uds::nrc::Nrc;
 
 // Before the act's outcome is known.
-pub fn ask36(payload: &[u8]) -> Ask
-    ensures { (v : Seen) → Asked Rules.service36 later36 (asking payload.now v) result }
+#[tactic(auto, unfolding(model::specs::Service36::service36))]
+pub fn ask36(request: &Request) -> Result<Act, u8>
+    ensures { (v : Seen) → Asked Rules.service36 later36 (asking request.now.payload.now v) result }
 {
-    if payload.len() < 1 {
-        return Ask::Refused(Nrc::INCORRECT_MESSAGE_LENGTH_OR_INVALID_FORMAT);
+    if request.payload.is_empty() {
+        return Err(Nrc::INCORRECT_MESSAGE_LENGTH_OR_INVALID_FORMAT);
     }
-    let rest = payload.len() - 1;
-    let act = Act {
+    let rest = request.payload.len() - 1;
+    Ok(Act {
         a: Part::of(1, 1),
         b: Part::of(2, rest),
         c: Part::NONE,
         number: 0x36,
         parts: 2,
-    };
-    Ask::Asks(act)
+    })
 }
 
-pub fn service36(frames: u8, payload: &[u8], err: u8, given: &[u8], room: &mut Room) -> Spoken
-    ensures { (v : Seen) → Speaks Rules.service36 (asking payload.now (handed err given.now v)) frames room.old result room.new }
+pub fn service36(request: &Request, room: &mut Room) -> Spoken
+    ensures { (v : Seen) → Speaks Rules.service36 (asking request.now.payload.now (handed request.now.err request.now.given.now v)) request.now.frames room.old result room.new }
 {
-    let code = service::outcome(err, given, 256);
-    let counter = uds::frame::byte(payload, 0);
-    service::answered(ask36(payload), frames, code, false, &[counter], given, room)
+    let outcome = request.outcome(256);
+    let counter = uds::frame::byte(request.payload, 0);
+    service::answered(
+        ask36(request),
+        request.frames,
+        outcome,
+        false,
+        &[counter],
+        request.given,
+        room,
+    )
 }

@@ -2,31 +2,20 @@
 // the act and the reply.
 #![tactic(auto)]
 
+use config::Config;
 use lines::Line;
 use queue::Room;
 use queue::reply::Reply;
-use service::{Act, Ask, Part, Spoken};
+use service::{Act, Request, Spoken};
 use std::io;
-
-fn part(line: Line, part: Part) -> Line {
-    line.number(part.start as u64).number(part.len as u64)
-}
 
 // Its number, then a start and a length for each argument.
 fn act(line: Line, act: Act) -> Line {
-    let numbered = line.hex(&[act.number]);
-    if act.parts == 0 {
-        return numbered;
+    let mut line = line.hex(&[act.number]);
+    for part in [act.a, act.b, act.c].iter().take(usize::from(act.parts)) {
+        line = line.number(part.start as u64).number(part.len as u64);
     }
-    let first = part(numbered, act.a);
-    if act.parts == 1 {
-        return first;
-    }
-    let second = part(first, act.b);
-    if act.parts == 2 {
-        return second;
-    }
-    part(second, act.c)
+    line
 }
 
 // A positive reply stands after the first byte of the free place, here the first one.
@@ -46,58 +35,55 @@ fn reply(line: Line, reply: Reply, room: &Room) -> Line {
     }
 }
 
-// The answer to a question.
-fn asked(rt: &HostRuntime, ask: Ask) -> io::Result<()> {
-    let line = match ask {
-        Ask::Refused(code) => Line::new().word(b"refused").hex(&[code]),
-        Ask::Asks(asks) => act(Line::new().word(b"asks"), asks),
+// Two lines: what a question is told, and the answer to the request.
+fn told(rt: &HostRuntime, ask: Result<Act, u8>, answer: Spoken, room: &Room) -> io::Result<()> {
+    let asked = match ask {
+        Err(code) => Line::new().word(b"refused").hex(&[code]),
+        Ok(asks) => act(Line::new().word(b"asks"), asks),
     };
-    line.print(rt)?;
+    asked.print(rt)?;
+    reply(act(Line::new(), answer.act), answer.reply, room).print(rt)?;
     Ok(())
 }
 
-// The answer to a request.
-fn spoken(rt: &HostRuntime, spoken: Spoken, room: &Room) -> io::Result<()> {
-    let acts = spoken.act;
-    let says = spoken.reply;
-    reply(act(Line::new(), acts), says, room).print(rt)?;
-    Ok(())
+// None of these services looks at a configuration.
+const NO_CONFIG: Config = [0; 3006];
+
+// A request with what is handed in for its act.
+fn requested<'a>(payload: &'a [u8], err: u8, given: &'a [u8]) -> Request<'a> {
+    Request {
+        err,
+        given,
+        ..Request::of(&NO_CONFIG, payload)
+    }
 }
 
-// Two lines: what is asked, and the answer.
 fn run34(rt: &HostRuntime, payload: &[u8], err: u8, given: &[u8]) -> io::Result<()> {
     let mut room = [0u8; 4353];
-    asked(rt, transfer::service34::ask34(payload))?;
-    let answer = transfer::service34::service34(0, payload, err, given, &mut room);
-    spoken(rt, answer, &room)?;
-    Ok(())
+    let request = requested(payload, err, given);
+    let answer = transfer::service34::service34(&request, &mut room);
+    told(rt, transfer::service34::ask34(&request), answer, &room)
 }
 
-// Two lines: what is asked, and the answer.
 fn run36(rt: &HostRuntime, payload: &[u8], err: u8, given: &[u8]) -> io::Result<()> {
     let mut room = [0u8; 4353];
-    asked(rt, transfer::service36::ask36(payload))?;
-    let answer = transfer::service36::service36(0, payload, err, given, &mut room);
-    spoken(rt, answer, &room)?;
-    Ok(())
+    let request = requested(payload, err, given);
+    let answer = transfer::service36::service36(&request, &mut room);
+    told(rt, transfer::service36::ask36(&request), answer, &room)
 }
 
-// Two lines: what is asked, and the answer.
 fn run37(rt: &HostRuntime, payload: &[u8], err: u8, given: &[u8]) -> io::Result<()> {
     let mut room = [0u8; 4353];
-    asked(rt, Ask::Asks(transfer::service37::ask37(payload)))?;
-    let answer = transfer::service37::service37(0, payload, err, given, &mut room);
-    spoken(rt, answer, &room)?;
-    Ok(())
+    let request = requested(payload, err, given);
+    let answer = transfer::service37::service37(&request, &mut room);
+    told(rt, Ok(transfer::service37::ask37(&request)), answer, &room)
 }
 
-// Two lines: what is asked, and the answer.
 fn run38(rt: &HostRuntime, payload: &[u8], err: u8, given: &[u8]) -> io::Result<()> {
     let mut room = [0u8; 4353];
-    asked(rt, transfer::service38::ask38(payload))?;
-    let answer = transfer::service38::service38(0, payload, err, given, &mut room);
-    spoken(rt, answer, &room)?;
-    Ok(())
+    let request = requested(payload, err, given);
+    let answer = transfer::service38::service38(&request, &mut room);
+    told(rt, transfer::service38::ask38(&request), answer, &room)
 }
 
 // Short payloads, lengths of nothing, both lengths, a byte less and a byte more, an address alone, a size alone, lengths of 15.

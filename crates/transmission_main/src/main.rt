@@ -16,16 +16,15 @@ use uds::rows::DidConfig;
 // F190 of level 0 and F191 of level 1, written in session 3 alone; F201 of level 0, and F202 of level 2 with a minimum of 3000.
 fn configured() -> Config {
     let both = b"\x01\x03";
-    let c = build::with_did(
-        build::new(16, 2015),
+    let rows = [
         DidConfig::read_write(0xF190, both, b"\x03"),
-    );
-    let d = build::with_did(c, DidConfig::read_write(0xF191, both, b"\x03").secured(1));
-    let e = build::with_did(d, DidConfig::read_only(0xF201, both));
-    let last = DidConfig::read_only(0xF202, both)
-        .secured(2)
-        .periodic(Duration(3000));
-    build::with_did(e, last)
+        DidConfig::read_write(0xF191, both, b"\x03").secured(1),
+        DidConfig::read_only(0xF201, both),
+        DidConfig::read_only(0xF202, both)
+            .secured(2)
+            .periodic(Duration(3000)),
+    ];
+    rows.into_iter().fold(build::new(16, 2015), build::with_did)
 }
 
 fn main(rt: HostRuntime) -> io::Result<()> {

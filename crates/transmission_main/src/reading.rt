@@ -2,6 +2,7 @@
 use super::show;
 use config::Config;
 use lines::Line;
+use service::Request;
 use std::io;
 
 // A reading in session 1, where the value of F190 has so many bytes, and that of F191 one byte and this error byte.
@@ -17,9 +18,21 @@ fn read(
     let mut room = [0u8; 4353];
     let pool = [0x5Au8; 300];
     let values = [0xF190u32, 0, 0, len, 0xF191, err, 10, 1];
-    let spoken = data::service22::service22(c, 1, level, 0, &values, &pool, payload, &mut room);
-    let reply = spoken.reply;
-    show::reply(rt, Line::new().text(what), reply, 0x22, false, &mut room)?;
+    let request = Request {
+        level,
+        values: &values,
+        pool: &pool,
+        ..Request::of(c, payload)
+    };
+    let spoken = data::service22::service22(&request, &mut room);
+    show::reply(
+        rt,
+        Line::new().text(what),
+        spoken.reply,
+        0x22,
+        false,
+        &mut room,
+    )?;
     Ok(())
 }
 

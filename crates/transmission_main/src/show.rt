@@ -1,8 +1,8 @@
 // What was said, and the frame that it becomes.
 use lines::Line;
 use periodic::Subscriptions;
-use queue::reply::Reply;
-use queue::{Heads, Room};
+use queue::Room;
+use queue::reply::{Asker, Outbox, Reply};
 use std::io;
 
 // The reply: how many bytes, or the code.
@@ -16,11 +16,6 @@ fn said(line: Line, reply: Reply) -> Line {
     }
 }
 
-// How long the first frame is.
-fn length(heads: &Heads) -> u32 {
-    uds::table::word(heads, 1)
-}
-
 // The frame's length, and as much of it as five bytes.
 pub(crate) fn reply(
     rt: &HostRuntime,
@@ -32,12 +27,21 @@ pub(crate) fn reply(
 ) -> io::Result<()> {
     let mut heads = [0u32; 32];
     let told = said(line, reply);
-    let pushed = queue::reply::answer(0, &mut heads, room, functional, 16, sid, reply);
-    if pushed.count == 0 {
+    let mut outbox = Outbox {
+        count: 0,
+        heads: &mut heads,
+        room: &mut *room,
+    };
+    let asker = Asker {
+        functional,
+        to: 16,
+        sid,
+    };
+    if outbox.answer(asker, reply).is_err() || outbox.count == 0 {
         told.word(b"none").print(rt)?;
         return Ok(());
     }
-    let len = length(&heads) as usize;
+    let len = heads[1] as usize;
     let frame = service::first(room, len);
     told.number(len as u64)
         .hex(service::first(frame, 5))
@@ -51,8 +55,8 @@ pub(crate) fn entry(rt: &HostRuntime, subs: &Subscriptions, i: usize) -> io::Res
     Line::new()
         .number(i as u64)
         .text(b":")
-        .number(e.identifier as u64)
-        .number(e.client as u64)
+        .number(u64::from(e.identifier))
+        .number(u64::from(e.client))
         .number(e.interval.0)
         .number(e.next.0)
         .print(rt)?;

@@ -3,6 +3,7 @@ use super::show;
 use config::Config;
 use lines::Line;
 use periodic::Subscriptions;
+use service::Request;
 use std::io;
 use uds::clock::Instant;
 
@@ -17,22 +18,17 @@ fn ask(
     payload: &[u8],
 ) -> io::Result<u8> {
     let mut room = [0u8; 4353];
-    let wanted = transmission::service2A::service2A(
-        c,
-        1,
-        0,
-        count,
-        0,
+    let request = Request {
+        subscriptions: count,
         src,
-        Instant(t),
-        payload,
-        subs,
-        &mut room,
-    );
-    let effect = wanted.effect;
-    let reply = effect.reply;
-    let line = Line::new().text(what).number(effect.subscriptions as u64);
-    show::reply(rt, line, reply, 0x2A, true, &mut room)?;
+        t: Instant(t),
+        ..Request::of(c, payload)
+    };
+    let effect = transmission::service2A::service2A(&request, subs, &mut room).effect;
+    let line = Line::new()
+        .text(what)
+        .number(u64::from(effect.subscriptions));
+    show::reply(rt, line, effect.reply, 0x2A, true, &mut room)?;
     Ok(effect.subscriptions)
 }
 
@@ -75,39 +71,16 @@ pub(crate) fn several(rt: &HostRuntime, c: &Config) -> io::Result<()> {
     Ok(())
 }
 
-fn three(
-    rt: &HostRuntime,
-    c: &Config,
-    subs: &mut Subscriptions,
-    count: u8,
-    x: u32,
-    y: u32,
-    z: u32,
-) -> io::Result<u8> {
-    let a = ask(rt, b"one more:", c, subs, count, x, 1000, b"\x03\x01")?;
-    let b = ask(rt, b"one more:", c, subs, a, y, 1000, b"\x03\x01")?;
-    Ok(ask(rt, b"one more:", c, subs, b, z, 1000, b"\x03\x01")?)
-}
-
 // Sixteen clients; a seventeenth; what stands is renewed all the same, also where the next finds no room; and a count that no table has.
 pub(crate) fn full(rt: &HostRuntime, c: &Config) -> io::Result<()> {
     let mut subs = [0u64; 64];
-    let a = three(rt, c, &mut subs, 0, 1, 2, 3)?;
-    let b = three(rt, c, &mut subs, a, 4, 5, 6)?;
-    let d = three(rt, c, &mut subs, b, 7, 8, 9)?;
-    let e = three(rt, c, &mut subs, d, 10, 11, 12)?;
-    let f = three(rt, c, &mut subs, e, 13, 14, 15)?;
-    let all = ask(rt, b"sixteenth:", c, &mut subs, f, 16, 1000, b"\x03\x01")?;
-    ask(
-        rt,
-        b"seventeenth:",
-        c,
-        &mut subs,
-        all,
-        17,
-        1000,
-        b"\x03\x01",
-    )?;
+    let fast = b"\x03\x01";
+    let mut count = 0;
+    for src in 1..=15 {
+        count = ask(rt, b"one more:", c, &mut subs, count, src, 1000, fast)?;
+    }
+    let all = ask(rt, b"sixteenth:", c, &mut subs, count, 16, 1000, fast)?;
+    ask(rt, b"seventeenth:", c, &mut subs, all, 17, 1000, fast)?;
     ask(rt, b"renewed:", c, &mut subs, all, 16, 5000, b"\x01\x01")?;
     show::entry(rt, &subs, 15)?;
     ask(

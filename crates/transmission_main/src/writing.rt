@@ -2,6 +2,7 @@
 use super::show;
 use config::Config;
 use lines::Line;
+use service::Request;
 use std::io;
 
 fn write(
@@ -15,20 +16,24 @@ fn write(
     given: &[u8],
 ) -> io::Result<()> {
     let mut room = [0u8; 4353];
-    let spoken = data::service2E::service2E(c, session, level, 0, payload, err, given, &mut room);
-    let reply = spoken.reply;
+    let request = Request {
+        session,
+        level,
+        err,
+        given,
+        ..Request::of(c, payload)
+    };
+    let spoken = data::service2E::service2E(&request, &mut room);
     let act = spoken.act;
-    let a = act.a;
-    let b = act.b;
     let line = Line::new()
         .text(what)
         .hex(&[act.number])
-        .number(act.parts as u64)
-        .number(a.start as u64)
-        .number(a.len as u64)
-        .number(b.start as u64)
-        .number(b.len as u64);
-    show::reply(rt, line, reply, 0x2E, false, &mut room)?;
+        .number(u64::from(act.parts))
+        .number(act.a.start as u64)
+        .number(act.a.len as u64)
+        .number(act.b.start as u64)
+        .number(act.b.len as u64);
+    show::reply(rt, line, spoken.reply, 0x2E, false, &mut room)?;
     Ok(())
 }
 

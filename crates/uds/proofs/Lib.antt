@@ -7,4 +7,5 @@ pub mod Readings
 pub mod Paste
 pub mod Held
 pub mod Times
+pub mod Refusals
 pub mod Settled

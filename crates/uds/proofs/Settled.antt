@@ -3,23 +3,19 @@
 use Prim.Native.Nat.{ℕ}
 use mathlib.Core.Path.{◌≡◌, refl, ap, sym, ◌∙◌}
 use mathlib.Core.Bool.{Bool}
-use mathlib.Core.List.{List, [], ◌∷◌}
+use mathlib.Core.List.{List}
 use mathlib.Core.Option.{Option, some, none, none-ne-some, some-ne-none}
 use native.Mathlib.Omega.{arith}
-use lib.ListN.{take, drop, get_or}
+use lib.ListN.{take, drop}
 use Rattle.model.specs.Config as Model
 use Rattle.model.specs.Values as Values
 use Rattle.uds.specs.Table.{place_of, Finds}
 use Rattle.uds.specs.Rows.{session_of}
-use Rattle.uds.specs.Values.{Says}
+use Rattle.uds.specs.Values.{Says, Reading}
 use Rattle.uds.specs.declared.clock.Instant.{Instant}
 use Rattle.uds.specs.declared.clock.Duration.{Duration}
-use Rattle.uds.specs.declared.frame.TwoBytes.{TwoBytes}
 use Rattle.uds.specs.declared.rows.SessionConfig.{SessionConfig}
-use Rattle.uds.specs.declared.table.Found.{Found}
-use Rattle.uds.specs.declared.table.Found.TheVariants.{At, Nothing}
-use Rattle.uds.specs.declared.values.Outcome.{Outcome}
-use Rattle.uds.specs.declared.values.Outcome.TheVariants.{Bytes, Error}
+use Rattle.std.specs.Prelude.{Option as Maybe, Some, None, Ok, Err}
 use Rattle.uds.proofs.Promise.{Settles, Answer}
 use Rattle.uds.proofs.clock.Instant.plus.Reads as plus
 use Rattle.uds.proofs.clock.Instant.since.Reads as since
@@ -41,6 +37,7 @@ use Rattle.uds.proofs.frame.word.Reads as frame-word
 use Rattle.uds.proofs.frame.two_bytes.Reads as two_bytes
 use Rattle.uds.proofs.frame.byte.Reads as byte
 use Rattle.uds.proofs.nrc.Nrc.withheld.Reads as withheld
+use Rattle.uds.proofs.result.number.Reads as number
 use Rattle.uds.proofs.nrc.Rate.interval.Reads as interval
 use Rattle.uds.proofs.rows.SessionList.of.Reads as of
 use Rattle.uds.proofs.rows.SessionList.within.Reads as list-within
@@ -59,8 +56,8 @@ use Rattle.uds.proofs.rows.DidConfig.within.Reads as did-within
 use Rattle.uds.proofs.rows.SecurityLevelConfig.within.Reads as level-within
 use Rattle.uds.proofs.table.examined.Reads as examined
 use Rattle.uds.proofs.table.word.Reads as word
-use Rattle.uds.proofs.table.cell.Reads as cell
-use Rattle.uds.proofs.table.find.Reads as find
+use Rattle.uds.proofs.table.Column.cell.Reads as cell
+use Rattle.uds.proofs.table.Column.find.Reads as find
 use Rattle.uds.proofs.values.find_value.Reads as find-value
 use Rattle.uds.proofs.values.row_value.Reads as row-value
 use Rattle.uds.proofs.values.value.Reads as value
@@ -82,13 +79,6 @@ span e e' = ap made (said e e')
     made : ℕ → Duration
     made d = record { 0 = d }
 
--- two bytes
-bytes : {r r' : TwoBytes} {l : List ℕ} → r.0 ∷ r.1 ∷ [] ≡ l → r'.0 ∷ r'.1 ∷ [] ≡ l → r ≡ r'
-bytes e e' = ap made (said e e')
-  where
-    made : List ℕ → TwoBytes
-    made l = record { 0 = get_or l 0 0; 1 = get_or l 1 0 }
-
 -- a session's row
 session : {r r' : SessionConfig} {m : Model.SessionConfig} → session_of r ≡ m → session_of r' ≡ m → r ≡ r'
 session e e' = ap made (said e e')
@@ -97,16 +87,16 @@ session e e' = ap made (said e e')
     made m = record { session_type = m.session_type; p2_timeout = record { 0 = m.p2 }; p2_extended_timeout = record { 0 = m.p2_ext }; s3_timeout = record { 0 = m.s3 } }
 
 -- what a lookup answers: the row, or that there is none
-pub found : {r r' : Found} {o : Option ℕ} → place_of r ≡ o → place_of r' ≡ o → r ≡ r'
+pub found : {r r' : Maybe ℕ} {o : Option ℕ} → place_of r ≡ o → place_of r' ≡ o → r ≡ r'
 found {r} {r'} e e' = same r r' (said e e')
   where
-    same : (r r' : Found) → place_of r ≡ place_of r' → r ≡ r'
-    same (At i) (At j) e = let z : i ≡ j = cc in ap At z
-    same (At i) Nothing e = absurd (some-ne-none i e)
-    same Nothing (At j) e = absurd (none-ne-some j e)
-    same Nothing Nothing e = refl
+    same : (r r' : Maybe ℕ) → place_of r ≡ place_of r' → r ≡ r'
+    same (Some i) (Some j) e = let z : i ≡ j = cc in ap Some z
+    same (Some i) None e = absurd (some-ne-none i e)
+    same None (Some j) e = absurd (none-ne-some j e)
+    same None None e = refl
 
-pub looked_up : {B : Type 0} {p : B → Bool} {f : ℕ → B} {n : ℕ} {r r' : Found} → Finds p f n r → Finds p f n r' → r ≡ r'
+pub looked_up : {B : Type 0} {p : B → Bool} {f : ℕ → B} {n : ℕ} {r r' : Maybe ℕ} → Finds p f n r → Finds p f n r' → r ≡ r'
 looked_up a b = found a.where_it_stands b.where_it_stands
 
 -- what a row of the value table reads as: the error byte, or where the bytes stand and how many they are
@@ -115,12 +105,12 @@ module _ (pool : List ℕ) (limit : ℕ) where
   unfolding Values.row_value
   no_bytes l e = let z : ◌≡◌ {A = ℕ} 0 1 = cc in omega arith
 
-  pub reading : (row : Option Values.ValueRow) (r r' : Outcome) → Says pool limit row r → Says pool limit row r' → r ≡ r'
-  reading row (Error x) (Error y) a b = let e = said a.says b.says in let z : x ≡ y = cc in ap Error z
-  reading row (Error x) (Bytes s n) a b = let e = said a.says b.says in absurd (let z : ◌≡◌ {A = ℕ} 0 1 = cc in omega arith)
-  reading row (Bytes s n) (Error y) a b = let e = said a.says b.says in absurd (let z : ◌≡◌ {A = ℕ} 0 1 = cc in omega arith)
-  reading (some x) (Bytes s n) (Bytes t m) a b = said a.stands b.stands
-  reading none (Bytes s n) (Bytes t m) a b = absurd (no_bytes (take n (drop s pool)) a.says)
+  pub reading : (row : Option Values.ValueRow) (r r' : Reading) → Says pool limit row r → Says pool limit row r' → r ≡ r'
+  reading row (Err x) (Err y) a b = let e = said a.says b.says in let z : x ≡ y = cc in ap Err z
+  reading row (Err x) (Ok s) a b = let e = said a.says b.says in absurd (let z : ◌≡◌ {A = ℕ} 0 1 = cc in omega arith)
+  reading row (Ok s) (Err y) a b = let e = said a.says b.says in absurd (let z : ◌≡◌ {A = ℕ} 0 1 = cc in omega arith)
+  reading (some x) (Ok s) (Ok t) a b = said a.stands b.stands
+  reading none (Ok s) (Ok t) a b = absurd (no_bytes (take s.len (drop s.start pool)) a.says)
 
 -- moments and spans
 pub plus_settled : (κs : _) (a : _) → Settles (plus.Post κs a) Answer
@@ -176,7 +166,7 @@ pub frame_word_settled : (κs : _) (a : _) → Settles (frame-word.Post κs a) A
 frame_word_settled κs a x e y f p q = said p q
 
 pub two_bytes_settled : (κs : _) (a : _) → Settles (two_bytes.Post κs a) Answer
-two_bytes_settled κs a x e y f p q = bytes p q
+two_bytes_settled κs a x e y f p q = said p q
 
 pub byte_settled : (κs : _) (a : _) → Settles (byte.Post κs a) Answer
 byte_settled κs a x e y f p q = said p q
@@ -187,6 +177,10 @@ withheld_settled κs a x e y f p q = said p q
 
 pub interval_settled : (κs : _) (a : _) → Settles (interval.Post κs a) Answer
 interval_settled κs a x e y f p q = span p q
+
+-- the number of what was done
+pub number_settled : (κs : _) (a : _) → Settles (number.Post κs a) Answer
+number_settled κs a x e y f p q = said p q
 
 -- rows
 pub of_settled : (κs : _) (a : _) → Settles (of.Post κs a) Answer

@@ -12,8 +12,7 @@ use lib.ListN.{length, drop, get_or, drop_of_length-le, get_or-eq_default}
 use lib.Seq.{drop-cons}
 use lib.Dec.{eqb}
 use Rattle.model.specs.Tests.{pick, memb, place, first, examined, all}
-use Rattle.uds.specs.declared.table.Found.{Found}
-use Rattle.uds.specs.declared.table.Found.TheVariants.{At, Nothing}
+use Rattle.std.specs.Prelude.{Option as Maybe, Some, None, is_some}
 use Rattle.uds.specs.Table.{tab, is_key, place_of, row_of, examined_of, Finds, InWords}
 
 module _ {B : Type 0} (f : ℕ → B) (m i : ℕ) where
@@ -141,12 +140,12 @@ module _ {B : Type 0} (p : B → Bool) (f : ℕ → B) where
       at true ih = let e : k + 0 ≡ k = omega arith in rw e
       at false ih = onward (place p (tab f (suc k) n)) ∙ ih
 
-  row_at : (n : ℕ) (r : Found) → place_of r ≡ place p (tab f 0 n) → row_of f r ≡ first p (tab f 0 n)
+  row_at : (n : ℕ) (r : Maybe ℕ) → place_of r ≡ place p (tab f 0 n) → row_of f r ≡ first p (tab f 0 n)
   row_at n r e = start r ∙ ap (map (λ (j : ℕ). f (0 + j))) e ∙ row_from 0 n
     where
-      start : (r : Found) → row_of f r ≡ map (λ (j : ℕ). f (0 + j)) (place_of r)
-      start (At i) = let e : 0 + i ≡ i = omega arith in rw e
-      start Nothing = refl
+      start : (r : Maybe ℕ) → row_of f r ≡ map (λ (j : ℕ). f (0 + j)) (place_of r)
+      start (Some i) = let e : 0 + i ≡ i = omega arith in rw e
+      start None = refl
 
 -- and of the rows examined
 abbrev examined_at : Option ℕ → ℕ → ℕ
@@ -165,15 +164,15 @@ examined_from p (a ∷ l) = at (p a) (examined_from p l)
     at true ih = omega arith
     at false ih = onward (place p l) (length l) ∙ ap suc ih
 
-examined_by : {B : Type 0} (p : B → Bool) (f : ℕ → B) (n : ℕ) (r : Found) → place_of r ≡ place p (tab f 0 n) → examined_of r n ≡ examined p (tab f 0 n)
+examined_by : {B : Type 0} (p : B → Bool) (f : ℕ → B) (n : ℕ) (r : Maybe ℕ) → place_of r ≡ place p (tab f 0 n) → examined_of r n ≡ examined p (tab f 0 n)
 examined_by p f n r e = start r ∙ ap (λ (o : Option ℕ). examined_at o n) e ∙ ap (examined_at (place p (tab f 0 n))) (sym (tab-length f 0 n)) ∙ examined_from p (tab f 0 n)
   where
-    start : (r : Found) → examined_of r n ≡ examined_at (place_of r) n
-    start (At i) = refl
-    start Nothing = refl
+    start : (r : Maybe ℕ) → examined_of r n ≡ examined_at (place_of r) n
+    start (Some i) = refl
+    start None = refl
 
 -- an answer that is right of a column of keys is right of the table whose rows have those keys
-pub finds : {A B : Type 0} (p : B → Bool) (f : ℕ → B) (q : A → Bool) (g : ℕ → A) (m n : ℕ) (r : Found) → ((i : ℕ) → p (f i) ≡ q (g i)) → m ≡ n → place_of r ≡ place q (tab g 0 m) → Finds p f n r
+pub finds : {A B : Type 0} (p : B → Bool) (f : ℕ → B) (q : A → Bool) (g : ℕ → A) (m n : ℕ) (r : Maybe ℕ) → ((i : ℕ) → p (f i) ≡ q (g i)) → m ≡ n → place_of r ≡ place q (tab g 0 m) → Finds p f n r
 finds p f q g m n r h e t =
     let w : place_of r ≡ place p (tab f 0 n) = t ∙ rw e (sym (place_same p q f g 0 n h)) in
     record { where_it_stands = w; row = row_at p f n r w; rows = examined_by p f n r w }
@@ -193,13 +192,13 @@ memb_known x (y ∷ l) = go (eqb y x) (place (is_key x) l) (memb_known x l)
     go false none ih = ih
     go false (some i) ih = ih
 
-pub listed : (x : ℕ) (l : List ℕ) (r : Found) (i : ℕ) → place_of r ≡ place (is_key x) l → r ≡ At i → true ≡ memb x l
+pub listed : (x : ℕ) (l : List ℕ) (r : Maybe ℕ) → place_of r ≡ place (is_key x) l → is_some r ≡ memb x l
 unfolding known
-listed x l r i e h = ap (λ (r : Found). known (place_of r)) (sym h) ∙ ap known e ∙ memb_known x l
-
-pub not_listed : (x : ℕ) (l : List ℕ) (r : Found) → place_of r ≡ place (is_key x) l → r ≡ Nothing → false ≡ memb x l
-unfolding known
-not_listed x l r e h = ap (λ (r : Found). known (place_of r)) (sym h) ∙ ap known e ∙ memb_known x l
+listed x l r e = told r ∙ ap known e ∙ memb_known x l
+  where
+    told : (r : Maybe ℕ) → is_some r ≡ known (place_of r)
+    told (Some i) = refl
+    told None = refl
 
 -- a table of a list's elements is the list
 tab_from : (f : ℕ → ℕ) (l : List ℕ) (i n : ℕ) → i + n ≡ length l → ((k : ℕ) → i ≤ k → k < i + n → f k ≡ get_or l k 0) → tab f i n ≡ drop i l

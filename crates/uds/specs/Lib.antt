@@ -1,4 +1,5 @@
 pub mod Clock
+pub mod Result
 pub mod Table
 pub mod Values
 pub mod Rows

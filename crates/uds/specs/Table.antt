@@ -1,9 +1,8 @@
 -- Tables as lent words, and what a lookup answers.
+use Rattle.std.specs.Prelude.{Option as Maybe, Some, None}
 use Rattle.std.specs.Prelude.{ℕ, zero, suc, ◌+◌, ◌*◌, ◌≤◌, ◌<◌, min, ◌≡◌, Bool, List, [], ◌∷◌, get_or, nat_eq}
 use Rattle.std.proofs.Math.Option.{Option, some, none}
 use Rattle.model.specs.Tests.{place, first, examined}
-use Rattle.uds.specs.declared.table.Found.{Found}
-use Rattle.uds.specs.declared.table.Found.TheVariants.{At, Nothing}
 
 -- f at n numbers from k on
 abbrev pub tab : {B : Type 0} → (ℕ → B) → ℕ → ℕ → List B
@@ -28,22 +27,22 @@ pub record InWords (len from step n : ℕ) : Type 0 where
   pub ends : from + n * step ≤ len
 
 -- what an answer says: the number of a row, or none
-abbrev pub place_of : Found → Option ℕ
-place_of (At i) = some i
-place_of Nothing = none
+abbrev pub place_of : Maybe ℕ → Option ℕ
+place_of (Some i) = some i
+place_of None = none
 
 -- the row itself
-abbrev pub row_of : {B : Type 0} → (ℕ → B) → Found → Option B
-row_of f (At i) = some (f i)
-row_of f Nothing = none
+abbrev pub row_of : {B : Type 0} → (ℕ → B) → Maybe ℕ → Option B
+row_of f (Some i) = some (f i)
+row_of f None = none
 
 -- how many of n rows were examined: a row number past them stands for them all
-abbrev pub examined_of : Found → ℕ → ℕ
-examined_of (At i) n = min (i + 1) n
-examined_of Nothing n = n
+abbrev pub examined_of : Maybe ℕ → ℕ → ℕ
+examined_of (Some i) n = min (i + 1) n
+examined_of None n = n
 
 -- an answer is right of a table of n rows: where the first row that passes the test stands, which row that is, and how many were examined
-pub record Finds {B : Type 0} (p : B → Bool) (f : ℕ → B) (n : ℕ) (r : Found) : Type 0 where
+pub record Finds {B : Type 0} (p : B → Bool) (f : ℕ → B) (n : ℕ) (r : Maybe ℕ) : Type 0 where
   pub where_it_stands : place_of r ≡ place p (tab f 0 n)
   pub row : row_of f r ≡ first p (tab f 0 n)
   pub rows : examined_of r n ≡ examined p (tab f 0 n)

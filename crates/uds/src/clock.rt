@@ -7,12 +7,12 @@ ghost use Rattle.uds.specs.Clock.{later, larger};
 
 // A moment: milliseconds since the clock's zero.
 #[repr(C)]
-#[derive(Clone, Copy)]
+#[derive(Clone, Copy, PartialEq, Eq, PartialOrd, Ord)]
 pub struct Instant(pub u64);
 
 // A span: milliseconds between two moments.
 #[repr(C)]
-#[derive(Clone, Copy)]
+#[derive(Clone, Copy, PartialEq, Eq, PartialOrd, Ord)]
 pub struct Duration(pub u64);
 
 impl Instant {
@@ -31,27 +31,20 @@ impl Instant {
     pub fn plus(self, span: Duration) -> Instant
         ensures { result.0 ≡ later self.0 span.0 }
     {
-        let left = Self::LAST - self.0;
-        if span.0 <= left {
-            return Instant(self.0 + span.0);
-        }
-        Instant(Self::LAST)
+        Instant(self.0.saturating_add(span.0))
     }
 
     // The span since an earlier moment: none where that moment is later, as after a clock that went back.
     pub fn since(self, earlier: Instant) -> Duration
         ensures { result.0 ≡ self.0 - earlier.0 }
     {
-        if self.0 <= earlier.0 {
-            return Duration::ZERO;
-        }
-        Duration(self.0 - earlier.0)
+        Duration(self.0.saturating_sub(earlier.0))
     }
 
     pub fn is_before(self, other: Instant) -> bool
         ensures { result ≡ nat_lt self.0 other.0 }
     {
-        self.0 < other.0
+        self < other
     }
 
     // A state may hold it.
@@ -71,16 +64,13 @@ impl Duration {
     pub fn exceeds(self, other: Duration) -> bool
         ensures { result ≡ nat_lt other.0 self.0 }
     {
-        other.0 < self.0
+        other < self
     }
 
     pub fn larger(self, other: Duration) -> Duration
         ensures { result.0 ≡ larger self.0 other.0 }
     {
-        if self.0 <= other.0 {
-            return other;
-        }
-        self
+        self.max(other)
     }
 
     pub fn within(self) -> bool

@@ -23,10 +23,7 @@ pub fn sid(frame: &[u8]) -> u8
 pub fn payload(frame: &[u8]) -> &[u8]
     ensures { result.now ≡ payload_of frame.now }
 {
-    if frame.len() == 0 {
-        return frame;
-    }
-    &frame[1..]
+    frame.get(1..).unwrap_or(frame)
 }
 
 // The low seven bits of the first payload byte: 0 if it is absent.
@@ -61,7 +58,7 @@ pub fn low_nibble(b: u8) -> u8
 pub fn periodic_did(b: u8) -> u16
     ensures { result ≡ periodic_did b }
 {
-    PERIODIC_BASE | (b as u16)
+    PERIODIC_BASE | u16::from(b)
 }
 
 // The service with the response bit set.
@@ -75,7 +72,7 @@ pub fn response(sid: u8) -> u8
 pub fn identifier(high: u8, low: u8) -> u16
     ensures { result ≡ high * 256 + low }
 {
-    (high as u16) << 8 | (low as u16)
+    u16::from_be_bytes([high, low])
 }
 
 // The identifier that stands at a place of a payload.
@@ -89,21 +86,15 @@ pub fn word(payload: &[u8], at: usize) -> u16
 }
 
 // A number's low 16 bits as two bytes, high byte first.
-#[derive(Clone, Copy)]
-pub struct TwoBytes(pub u8, pub u8);
-
-pub fn two_bytes(n: u64) -> TwoBytes
-    ensures { result.0 ∷ result.1 ∷ [] ≡ two_bytes n }
+pub fn two_bytes(n: u64) -> [u8; 2]
+    ensures { result ≡ two_bytes n }
 {
-    TwoBytes((n >> 8 & 0xFF) as u8, (n & 0xFF) as u8)
+    ((n & 0xFFFF) as u16).to_be_bytes()
 }
 
 // The byte at a place: 0 past the end.
 pub fn byte(bytes: &[u8], at: usize) -> u8
     ensures { result ≡ get_or bytes.now at 0 }
 {
-    if at < bytes.len() {
-        return bytes[at];
-    }
-    0
+    bytes.get(at).copied().unwrap_or(0)
 }

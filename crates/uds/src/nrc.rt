@@ -6,8 +6,8 @@ ghost use Rattle.model.specs.Service2A.{rate_of};
 
 use super::clock::Duration;
 
-// A negative response code.
-#[derive(Clone, Copy)]
+// A negative response code: any byte, since a value table, an outcome and `fail` may name any.
+#[derive(Clone, Copy, PartialEq, Eq)]
 pub struct Nrc(pub u8);
 
 impl Nrc {
@@ -62,20 +62,12 @@ impl Nrc {
     pub fn withheld(self) -> bool
         ensures { result ≡ withheld functional self.0 }
     {
-        let code = self.0;
-        let mut i = 0;
-        while i < 5 {
-            if Self::FUNCTIONALLY_SUPPRESSED[i] == code {
-                return true;
-            }
-            i += 1;
-        }
-        false
+        Self::FUNCTIONALLY_SUPPRESSED.contains(&self.0)
     }
 }
 
-// A transmission mode of periodic reading.
-#[derive(Clone, Copy)]
+// A transmission mode of periodic reading: any byte, of which every one above 2 is fast.
+#[derive(Clone, Copy, PartialEq, Eq)]
 pub struct Rate(pub u8);
 
 impl Rate {
@@ -89,13 +81,11 @@ impl Rate {
     pub fn interval(self) -> Duration
         ensures { result.0 ≡ rate_of self.0 }
     {
-        if self.0 == 1 {
-            return Self::SLOW;
+        match self.0 {
+            1 => Self::SLOW,
+            2 => Self::MEDIUM,
+            _ => Self::FAST,
         }
-        if self.0 == 2 {
-            return Self::MEDIUM;
-        }
-        Self::FAST
     }
 }
 

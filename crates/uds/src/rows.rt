@@ -14,7 +14,7 @@ pub const MAX_LISTED: u32 = 8;
 pub const MAX_SEED: u32 = 32;
 
 // A list of sessions. It holds the first eight, and 0 where there are fewer: of a longer one the count tells, and no configuration
-// that keeps the numbers takes it.
+// that keeps the numbers takes it. It is of fixed size, since there is no heap.
 #[derive(Clone, Copy)]
 pub struct SessionList {
     pub sessions: [u8; 8],
@@ -26,16 +26,7 @@ impl SessionList {
         ensures { result ≡ held_of sessions.now }
     {
         SessionList {
-            sessions: [
-                byte(sessions, 0),
-                byte(sessions, 1),
-                byte(sessions, 2),
-                byte(sessions, 3),
-                byte(sessions, 4),
-                byte(sessions, 5),
-                byte(sessions, 6),
-                byte(sessions, 7),
-            ],
+            sessions: std::array::from_fn(|i| byte(sessions, i)),
             count: sessions.len(),
         }
     }
@@ -56,52 +47,40 @@ pub struct SessionConfig {
 }
 
 impl SessionConfig {
-    pub fn default_session() -> SessionConfig
-        ensures { session_of result ≡ preset_session 1 }
+    // A session with the default spans.
+    fn preset(session_type: u8) -> SessionConfig
+        ensures { session_of result ≡ preset_session session_type }
     {
         SessionConfig {
-            session_type: 0x01,
+            session_type,
             p2_timeout: DEFAULT_P2,
             p2_extended_timeout: DEFAULT_P2_EXT,
             s3_timeout: DEFAULT_S3,
         }
+    }
+
+    pub fn default_session() -> SessionConfig
+        ensures { session_of result ≡ preset_session 1 }
+    {
+        Self::preset(0x01)
     }
 
     pub fn programming_session() -> SessionConfig
         ensures { session_of result ≡ preset_session 2 }
     {
-        SessionConfig {
-            session_type: 0x02,
-            p2_timeout: DEFAULT_P2,
-            p2_extended_timeout: DEFAULT_P2_EXT,
-            s3_timeout: DEFAULT_S3,
-        }
+        Self::preset(0x02)
     }
 
     pub fn extended_session() -> SessionConfig
         ensures { session_of result ≡ preset_session 3 }
     {
-        SessionConfig {
-            session_type: 0x03,
-            p2_timeout: DEFAULT_P2,
-            p2_extended_timeout: DEFAULT_P2_EXT,
-            s3_timeout: DEFAULT_S3,
-        }
+        Self::preset(0x03)
     }
 
     pub fn within(self) -> bool
         ensures { result ≡ Model.session_within (session_of self) }
     {
-        let p2 = self.p2_timeout;
-        if !p2.within() {
-            return false;
-        }
-        let p2_ext = self.p2_extended_timeout;
-        if !p2_ext.within() {
-            return false;
-        }
-        let s3 = self.s3_timeout;
-        s3.within()
+        self.p2_timeout.within() && self.p2_extended_timeout.within() && self.s3_timeout.within()
     }
 }
 
@@ -117,11 +96,7 @@ impl ServiceConfig {
     pub fn new(service_id: u8, supported_in: &[u8]) -> ServiceConfig
         ensures { result ≡ service_with service_id supported_in.now 0 }
     {
-        ServiceConfig {
-            service_id,
-            supported_in: SessionList::of(supported_in),
-            security_level: 0,
-        }
+        Self::secured(service_id, supported_in, 0)
     }
 
     pub fn secured(service_id: u8, supported_in: &[u8], security_level: u8) -> ServiceConfig
@@ -137,8 +112,7 @@ impl ServiceConfig {
     pub fn within(self) -> bool
         ensures { result ≡ Model.service_within (service_of self) }
     {
-        let list = self.supported_in;
-        list.within()
+        self.supported_in.within()
     }
 }
 
@@ -157,14 +131,7 @@ impl DidConfig {
     pub fn read_only(identifier: u16, readable_in: &[u8]) -> DidConfig
         ensures { result ≡ did_with identifier readable_in.now [] }
     {
-        DidConfig {
-            identifier,
-            readable_in: SessionList::of(readable_in),
-            writable_in: SessionList::of(&[]),
-            security_level: 0,
-            periodic: false,
-            min_periodic_interval: Rate::FAST,
-        }
+        Self::read_write(identifier, readable_in, &[])
     }
 
     pub fn read_write(identifier: u16, readable_in: &[u8], writable_in: &[u8]) -> DidConfig
@@ -198,16 +165,9 @@ impl DidConfig {
     pub fn within(self) -> bool
         ensures { result ≡ Model.did_within (did_of self) }
     {
-        let readable = self.readable_in;
-        if !readable.within() {
-            return false;
-        }
-        let writable = self.writable_in;
-        if !writable.within() {
-            return false;
-        }
-        let interval = self.min_periodic_interval;
-        interval.within()
+        self.readable_in.within()
+            && self.writable_in.within()
+            && self.min_periodic_interval.within()
     }
 }
 
@@ -224,13 +184,8 @@ impl SecurityLevelConfig {
     pub fn within(self) -> bool
         ensures { result ≡ Model.level_within (level_of self) }
     {
-        let lockout = self.lockout_duration;
-        if !lockout.within() {
-            return false;
-        }
-        if (MAX_SEED as usize) < self.seed_length {
-            return false;
-        }
-        self.key_length <= MAX_SEED as usize
+        self.lockout_duration.within()
+            && self.seed_length <= MAX_SEED as usize
+            && self.key_length <= MAX_SEED as usize
     }
 }

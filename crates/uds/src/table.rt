@@ -5,106 +5,89 @@ ghost use Rattle.uds.specs.Table.{column, key_place, place_of, examined_of, InWo
 // Fewer rows, and fewer words in a row, than this are asked whether they stand in the words.
 const FEW: usize = 0x1_0000_0000;
 
-// What a lookup answers: the number of the first row that has the key, counted from 0.
-#[derive(Clone, Copy)]
-pub enum Found {
-    At(usize),
-    Nothing,
-}
-
-// How many of a table's rows a lookup examined to answer so: the one that it found included, or all of them.
-pub fn examined(found: Found, rows: usize) -> usize
+// How many of a table's rows a lookup examined to answer so, where it answers the number of the first row that has the key, counted
+// from 0: the one that it found included, or all of them.
+pub fn examined(found: Option<usize>, rows: usize) -> usize
     ensures { result ≡ examined_of found rows }
 {
-    let Found::At(i) = found else {
-        return rows;
-    };
-    if i < rows {
-        return i + 1;
+    match found {
+        Some(i) if i < rows => i + 1,
+        _ => rows,
     }
-    rows
 }
 
 // The word at a place: 0 past the end.
 pub fn word(words: &[u32], at: usize) -> u32
     ensures { result ≡ get_or words.now at 0 }
 {
-    if at < words.len() {
-        return words[at];
-    }
-    0
+    words.get(at).copied().unwrap_or(0)
 }
 
-// A word of row `i`, where that of the first row stands at `from` and rows are `step` words apart. A row number may be any: past the
-// end the words are 0.
-pub fn cell(words: &[u32], from: usize, step: usize, i: usize) -> u32
-    ensures { result ≡ column words.now from step i }
-{
-    if words.len() <= from {
-        return 0;
-    }
-    if step == 0 {
-        return word(words, from);
-    }
-    if words.len() / step < i {
-        return 0;
-    }
-    word(words, from + i * step)
+// Where one word of each row stands: that of the first row at `from`, and rows are `step` words apart.
+#[derive(Clone, Copy, PartialEq, Eq)]
+pub struct Column {
+    pub from: usize,
+    pub step: usize,
 }
 
-// All of `rows` rows stand in the words. From 2^32 rows or words in a row on it is not asked, so that the product fits.
-fn in_words(len: usize, from: usize, step: usize, rows: usize) -> bool
-    ensures { result ≡ true → InWords len from step rows }
-{
-    if len <= from {
-        return false;
-    }
-    if FEW <= rows {
-        return false;
-    }
-    if FEW <= step {
-        return false;
-    }
-    rows * step <= len - from
-}
-
-// The first of `rows` rows whose word is the key, where all of them stand in the words: no row needs a test of its place.
-fn walk(words: &[u32], from: usize, step: usize, rows: usize, key: u32) -> Found
-    requires { InWords (length words.now) from step rows }
-    ensures { place_of result ≡ key_place words.now from step rows key }
-{
-    let mut at = from;
-    let mut i: usize = 0;
-    while i < rows {
-        if words[at] == key {
-            return Found::At(i);
+impl Column {
+    // The word of row `i`. A row number may be any: past the end the words are 0.
+    pub fn cell(self, words: &[u32], i: usize) -> u32
+        ensures { result ≡ column words.now self.from self.step i }
+    {
+        if words.len() <= self.from {
+            return 0;
         }
-        i += 1;
-        at += step;
-    }
-    Found::Nothing
-}
-
-// The same, wherever the rows stand.
-fn walk_past(words: &[u32], from: usize, step: usize, rows: usize, key: u32) -> Found
-    ensures { place_of result ≡ key_place words.now from step rows key }
-{
-    let mut row: usize = 0;
-    while row < rows {
-        if cell(words, from, step, row) == key {
-            return Found::At(row);
+        if self.step == 0 {
+            return word(words, self.from);
         }
-        row += 1;
+        if words.len() / self.step < i {
+            return 0;
+        }
+        word(words, self.from + i * self.step)
     }
-    Found::Nothing
-}
 
-// The first of `rows` rows whose word is the key.
-pub fn find(words: &[u32], from: usize, step: usize, rows: usize, key: u32) -> Found
-    ensures { place_of result ≡ key_place words.now from step rows key }
-{
-    if in_words(words.len(), from, step, rows) {
-        return walk(words, from, step, rows, key);
+    // All of `rows` rows stand in so many words. From 2^32 rows or words in a row on it is not asked, so that the product fits.
+    fn in_words(self, len: usize, rows: usize) -> bool
+        ensures { result ≡ true → InWords len self.from self.step rows }
+    {
+        self.from < len && rows < FEW && self.step < FEW && rows * self.step <= len - self.from
     }
-    walk_past(words, from, step, rows, key)
+
+    // The first of `rows` rows whose word is the key, where all of them stand in the words: no row needs a test of its place.
+    fn walk(self, words: &[u32], rows: usize, key: u32) -> Option<usize>
+        requires { InWords (length words.now) self.from self.step rows }
+        ensures { place_of result ≡ key_place words.now self.from self.step rows key }
+    {
+        let mut at = self.from;
+        for i in 0..rows {
+            if words[at] == key {
+                return Some(i);
+            }
+            at += self.step;
+        }
+        None
+    }
+
+    // The same, wherever the rows stand.
+    fn walk_past(self, words: &[u32], rows: usize, key: u32) -> Option<usize>
+        ensures { place_of result ≡ key_place words.now self.from self.step rows key }
+    {
+        for row in 0..rows {
+            if self.cell(words, row) == key {
+                return Some(row);
+            }
+        }
+        None
+    }
+
+    // The first of `rows` rows whose word is the key.
+    pub fn find(self, words: &[u32], rows: usize, key: u32) -> Option<usize>
+        ensures { place_of result ≡ key_place words.now self.from self.step rows key }
+    {
+        if self.in_words(words.len(), rows) {
+            return self.walk(words, rows, key);
+        }
+        self.walk_past(words, rows, key)
+    }
 }

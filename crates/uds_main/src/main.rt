@@ -6,7 +6,6 @@ use lines::Line;
 use std::io;
 use uds::clock::{Duration, Instant};
 use uds::nrc::{Nrc, Rate};
-use uds::values::Outcome;
 use uds::{frame, values};
 
 // Sums at and past the last moment, differences after a clock that went forth and back, and the three comparisons.
@@ -30,9 +29,7 @@ fn clock(rt: &HostRuntime) -> io::Result<()> {
 // Every code that is withheld after a functional request.
 fn codes(rt: &HostRuntime) -> io::Result<()> {
     let mut line = Line::new().text(b"withheld:");
-    let mut code: u8 = 0;
-    while code < 255 {
-        code += 1;
+    for code in 1..=255 {
         if Nrc(code).withheld() {
             line = line.lower_hex(&[code]);
         }
@@ -77,9 +74,9 @@ fn first_bytes(rt: &HostRuntime) -> io::Result<()> {
 fn bits(rt: &HostRuntime) -> io::Result<()> {
     Line::new()
         .text(b"bits:")
-        .number(frame::high_nibble(0xA5) as u64)
-        .number(frame::low_nibble(0xA5) as u64)
-        .number(frame::periodic_did(0xFF) as u64)
+        .number(u64::from(frame::high_nibble(0xA5)))
+        .number(u64::from(frame::low_nibble(0xA5)))
+        .number(u64::from(frame::periodic_did(0xFF)))
         .lower_hex(&[frame::response(0x22)])
         .lower_hex(&[frame::response(0x62)])
         .print(rt)?;
@@ -91,11 +88,11 @@ fn two_bytes(rt: &HostRuntime) -> io::Result<()> {
     let both = frame::two_bytes(0x1_2345);
     Line::new()
         .text(b"two bytes:")
-        .number(frame::identifier(0xF1, 0x90) as u64)
-        .number(frame::word(b"\x00\xF1\x90", 1) as u64)
-        .number(frame::word(b"\x00\xF1\x90", 2) as u64)
-        .lower_hex(&[both.0])
-        .lower_hex(&[both.1])
+        .number(u64::from(frame::identifier(0xF1, 0x90)))
+        .number(u64::from(frame::word(b"\x00\xF1\x90", 1)))
+        .number(u64::from(frame::word(b"\x00\xF1\x90", 2)))
+        .lower_hex(&[both[0]])
+        .lower_hex(&[both[1]])
         .lower_hex(&[frame::byte(b"\x07", 0)])
         .lower_hex(&[frame::byte(b"\x07", 1)])
         .print(rt)?;
@@ -112,10 +109,12 @@ fn read(
 ) -> io::Result<()> {
     let line = Line::new().text(what);
     match values::value(words, pool, identifier, 256) {
-        Outcome::Bytes { start, len } => {
-            line.number(start as u64).number(len as u64).print(rt)?;
+        Ok(place) => {
+            line.number(place.start as u64)
+                .number(place.len as u64)
+                .print(rt)?;
         }
-        Outcome::Error(code) => {
+        Err(code) => {
             line.text(b" error").lower_hex(&[code]).print(rt)?;
         }
     }

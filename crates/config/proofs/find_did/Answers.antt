@@ -9,4 +9,4 @@ use Rattle.config.proofs.find_did.Goals as goal
 pub returns : goal.returns
 returns c = let a = c.args in
     let w = a.config.now in
-    finds (is_did a.identifier) (did_at w) (is_key a.identifier) (column w 278 21) c.word.result (did_count w) c.find.result (λ i. refl) c.word.ensures c.find.ensures
+    finds (is_did a.identifier) (did_at w) (is_key a.identifier) (column w 278 21) (did_count w) (did_count w) c.find.result (λ i. refl) refl c.find.ensures

@@ -9,4 +9,4 @@ use Rattle.config.proofs.find_security_level.Goals as goal
 pub returns : goal.returns
 returns c = let a = c.args in
     let w = a.config.now in
-    finds (is_level a.level) (level_at w) (is_key a.level) (column w 2966 5) c.word.result (level_count w) c.find.result (λ i. refl) c.word.ensures c.find.ensures
+    finds (is_level a.level) (level_at w) (is_key a.level) (column w 2966 5) (level_count w) (level_count w) c.find.result (λ i. refl) refl c.find.ensures

@@ -9,4 +9,4 @@ use Rattle.config.proofs.find_service.Goals as goal
 pub returns : goal.returns
 returns c = let a = c.args in
     let w = a.config.now in
-    finds (is_service a.service_id) (service_at w) (is_key a.service_id) (column w 38 10) c.word.result (service_count w) c.find.result (λ i. refl) c.word.ensures c.find.ensures
+    finds (is_service a.service_id) (service_at w) (is_key a.service_id) (column w 38 10) (service_count w) (service_count w) c.find.result (λ i. refl) refl c.find.ensures

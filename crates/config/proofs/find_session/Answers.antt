@@ -9,4 +9,4 @@ use Rattle.config.proofs.find_session.Goals as goal
 pub returns : goal.returns
 returns c = let a = c.args in
     let w = a.config.now in
-    finds (is_session a.session_type) (session_at w) (is_key a.session_type) (column w 6 4) c.word.result (session_count w) c.find.result (λ i. refl) c.word.ensures c.find.ensures
+    finds (is_session a.session_type) (session_at w) (is_key a.session_type) (column w 6 4) (session_count w) (session_count w) c.find.result (λ i. refl) refl c.find.ensures

@@ -1,4 +1,4 @@
--- The loop's invariant: what is left, added to what is built so far, is the whole. The measure is what is left of the list.
+-- The loop's invariant: what is left, added to what is built so far, is the whole.
 use Rattle.std.proofs.Common.{ap, arith, drop, ◌+◌, ◌∙◌}
 use Rattle.model.specs.Config.{Config}
 use Rattle.config.specs.View.{config_of}
@@ -9,12 +9,10 @@ use Rattle.fixed.specs.Steps.{add_services}
 use Rattle.fixed.proofs.Built.{one_more}
 use Rattle.fixed.proofs.services.Goals as goal
 
-pub loop-i-preserved : goal.loop-i-preserved
-loop-i-preserved c =
-    let w = c.loop-i.config in
-    let i = c.loop-i.i in
-    let ids = c.args.ids.now in (
-      omega arith,
-      ap (λ (k : Config). add_services k (drop (i + 1) ids)) (c.with_service-next.ensures ∙ ap (λ (s : ServiceConfig). settled (add_service (config_of w) (service_of s))) c.new.ensures)
-          ∙ one_more (config_of w) ids i (omega arith) ∙ c.loop-i.invariant.1,
-    )
+pub loop-id-preserved : goal.loop-id-preserved
+loop-id-preserved c =
+    let w = c.loop-id.config in
+    let i = c.loop-id.id-index in
+    let ids = c.args.ids.now in
+    ap (λ (k : Config). add_services k (drop (i + 1) ids)) (c.with_service-next.ensures ∙ ap (λ (s : ServiceConfig). settled (add_service (config_of w) (service_of s))) c.new.ensures)
+    ∙ one_more (config_of w) ids i (omega arith) ∙ c.loop-id.invariant

@@ -1,19 +1,16 @@
-use Rattle.std.proofs.Common.{ap, arith, false, sym, true, ◌∙◌}
+use Rattle.std.proofs.Common.{rules, tests, arith, ℕ, ◌∙◌}
+use Rattle.std.proofs.lemmas.Iterator.{YieldsList-from_range}
+use Rattle.std.proofs.lemmas.Iterator.Search.{all_from_yields_List}
 use Rattle.model.specs.State.{subscription_valid}
-use Rattle.uds.proofs.Tab.{kept, still}
 use Rattle.periodic.specs.View.{entry_at}
+use Rattle.periodic.proofs.Rows.{all_rows}
 use Rattle.periodic.proofs.Laws.{valid-beyond, valid-within}
 use Rattle.periodic.proofs.subscriptions_valid.Goals as goal
 
-pub returns-then-count-gt-MAX_PERIODIC : goal.returns-then-count-gt-MAX_PERIODIC
-returns-then-count-gt-MAX_PERIODIC c = let a = c.args in valid-beyond a.subs.now a.count (omega arith)
+pub returns-then-count-le-MAX_PERIODIC : goal.returns-then-count-le-MAX_PERIODIC
+returns-then-count-le-MAX_PERIODIC c = let a = c.args in
+    let f = entry_at a.subs.now in
+    valid-within a.subs.now a.count c.all.result (omega arith) (all_from_yields_List (λ (i : ℕ). subscription_valid (f i)) _ _ _ c.all.ensures.ran (YieldsList-from_range 0 a.count a.count (search rules) (search rules)) (λ x b q k. search (rules, tests)) ∙ all_rows subscription_valid f 0 a.count)
 
-pub loop-i-preserved : goal.loop-i-preserved
-loop-i-preserved c = let a = c.args in
-    let l = c.loop-i in
-    (omega arith, still (entry_at a.subs.now) subscription_valid a.count l.i _ l.invariant.1 (omega arith) (sym (c.entry_valid.ensures ∙ ap subscription_valid c.entry_at.ensures) ∙ c.if-not-entry_valid.false))
-
-pub returns : goal.returns
-returns c = let a = c.args in
-    let l = c.loop-i in
-    valid-within a.subs.now a.count true (omega arith) (kept (entry_at a.subs.now) subscription_valid a.count l.i _ l.invariant.1 (omega arith))
+pub returns-else-count-le-MAX_PERIODIC : goal.returns-else-count-le-MAX_PERIODIC
+returns-else-count-le-MAX_PERIODIC c = let a = c.args in valid-beyond a.subs.now a.count (omega arith)

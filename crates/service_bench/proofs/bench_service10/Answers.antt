@@ -1,4 +1,5 @@
+use Rattle.std.proofs.Common.{sym}
 use Rattle.service_bench.proofs.bench_service10.Goals as goal
 
 pub returns : goal.returns
-returns c = λ v k subs. rw c.told_wanted.ensures (c.service10-wanted.ensures v k subs)
+returns c = λ v k subs. rw (c.told_wanted.ensures, sym c.of.ensures.lent.0, sym c.of.ensures.lent.1) (c.service10.ensures v k subs)

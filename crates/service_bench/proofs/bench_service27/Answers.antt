@@ -1,4 +1,5 @@
+use Rattle.std.proofs.Common.{sym}
 use Rattle.service_bench.proofs.bench_service27.Goals as goal
 
 pub returns : goal.returns
-returns c = λ v subs. rw c.told_wanted.ensures (c.service27-wanted.ensures v subs)
+returns c = λ v subs. rw (c.told_wanted.ensures, sym c.of.ensures.lent.0, sym c.of.ensures.lent.1) (c.service27.ensures v subs)

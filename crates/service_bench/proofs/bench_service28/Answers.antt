@@ -1,4 +1,5 @@
+use Rattle.std.proofs.Common.{sym}
 use Rattle.service_bench.proofs.bench_service28.Goals as goal
 
 pub returns : goal.returns
-returns c = λ v. rw c.told_spoken.ensures (c.service28-spoken.ensures v)
+returns c = λ v. let e = c.requested.ensures in rw (c.told_spoken.ensures, sym e.0, sym e.1, sym e.2, sym e.3) (c.service28.ensures v)

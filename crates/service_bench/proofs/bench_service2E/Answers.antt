@@ -1,4 +1,5 @@
+use Rattle.std.proofs.Common.{sym}
 use Rattle.service_bench.proofs.bench_service2E.Goals as goal
 
 pub returns : goal.returns
-returns c = λ v. rw c.told_spoken.ensures (c.service2E-spoken.ensures v)
+returns c = λ v. rw (c.told_spoken.ensures, sym c.of.ensures.lent.0, sym c.of.ensures.lent.1) (c.service2E.ensures v)

@@ -7,4 +7,4 @@ pub returns : goal.returns
 returns c =
     let a = c.args in
     let l : length a.config ≡ 3006 = search rules in
-    did_made a.config c.with_row.result c.did_row-row.result c.within.result l a.d c.did_row-row.ensures c.within.ensures c.with_row.ensures
+    did_made a.config c.with_row.result c.did_row.result c.within.result l a.d c.did_row.ensures c.within.ensures c.with_row.ensures

@@ -7,4 +7,4 @@ pub returns : goal.returns
 returns c =
     let a = c.args in
     let l : length a.config ≡ 3006 = search rules in
-    level_made a.config c.with_row.result c.level_row-row.result c.within.result l a.l c.level_row-row.ensures c.within.ensures c.with_row.ensures
+    level_made a.config c.with_row.result c.level_row.result c.within.result l a.l c.level_row.ensures c.within.ensures c.with_row.ensures

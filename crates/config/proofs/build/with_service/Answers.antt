@@ -7,4 +7,4 @@ pub returns : goal.returns
 returns c =
     let a = c.args in
     let l : length a.config ≡ 3006 = search rules in
-    service_made a.config c.with_row.result c.service_row-row.result c.within.result l a.s c.service_row-row.ensures c.within.ensures c.with_row.ensures
+    service_made a.config c.with_row.result c.service_row.result c.within.result l a.s c.service_row.ensures c.within.ensures c.with_row.ensures

@@ -7,4 +7,4 @@ pub returns : goal.returns
 returns c =
     let a = c.args in
     let l : length a.config ≡ 3006 = search rules in
-    session_made a.config c.with_row.result c.session_row-row.result c.within.result l a.s c.session_row-row.ensures c.within.ensures c.with_row.ensures
+    session_made a.config c.with_row.result c.session_row.result c.within.result l a.s c.session_row.ensures c.within.ensures c.with_row.ensures

@@ -1,11 +1,12 @@
-use Rattle.std.proofs.Common.{[], drop, length, ◌-◌, ◌≡◌, ◌≤◌}
+use Rattle.std.proofs.Common.{[], ◌≡◌}
+use Rattle.std.specs.Slice.Iter.{chunks_exact_rest, chunks_exact_size}
 use Rattle.model.specs.Service22.{read_all}
 use Rattle.queue.specs.View.{Unseen, draft_of}
 use Rattle.data.specs.View22.{Every}
 use Rattle.data.proofs.service22.read_all.Given as goal
 
-abbrev pub invariant-loop-i : goal.invariant-loop-i
-invariant-loop-i l = (l.i ≤ length l.payload) × Unseen l.frames l.initial.room l.room × Every l.config l.session l.level l.values l.pool (λ v. read_all v l.payload [] ≡ read_all v (drop l.i l.payload) (draft_of l.frames l.len l.room))
-
-abbrev pub decreases-loop-i : goal.decreases-loop-i
-decreases-loop-i l = length l.payload - l.i
+-- what is left is read on from the bytes so far
+abbrev pub invariant-loop-id : goal.invariant-loop-id
+invariant-loop-id l =
+    let r = l.request in
+    (chunks_exact_size l.id-iterator ≡ 2) × Unseen r.frames l.initial.room l.room × Every r.config.now r.session r.level r.values.now r.pool.now (λ v. read_all v r.payload.now [] ≡ read_all v (chunks_exact_rest l.id-iterator) (draft_of r.frames l.len l.room))

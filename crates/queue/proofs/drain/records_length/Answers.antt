@@ -1,4 +1,4 @@
-use Rattle.std.proofs.Common.{arith, rules}
+use Rattle.std.proofs.Common.{arith}
 use Rattle.queue.specs.View.{frame_at}
 use Rattle.queue.proofs.Records.{frame-length, left_length}
 use Rattle.queue.proofs.drain.records_length.Goals as goal
@@ -7,7 +7,6 @@ pub loop-i-preserved : goal.loop-i-preserved
 loop-i-preserved c =
     let a = c.args in
     let l = c.loop-i in (
-      search rules,
-      omega (arith, c.requires.each c.loop-i.i c.loop-i-test.true, c.frame_length.ensures),
-      λ room z. omega (arith, l.invariant.2 room z, left_length (frame_at a.heads.now room) a.n l.i c.loop-i-test.true, frame-length a.heads.now room z l.i (omega (arith, c.requires.few)), c.frame_length.ensures),
+      omega (arith, c.requires.each l.i c.loop-i-test.true),
+      λ room z. omega (arith, l.invariant.1 room z, left_length (frame_at a.heads.now room) a.n l.i c.loop-i-test.true, frame-length a.heads.now room z l.i (omega (arith, c.requires.few))),
     )

@@ -5,7 +5,4 @@ use Rattle.queue.specs.View.{room_size, frame_at, queue_of}
 use Rattle.queue.proofs.drain.records_length.Given as goal
 
 abbrev pub invariant-loop-i : goal.invariant-loop-i
-invariant-loop-i l = (l.i ≤ l.n) × (l.total ≤ 264 * l.i) × ((room : List ℕ) → length room ≡ room_size → l.total + length (records (tab (frame_at l.heads room) l.i (l.n - l.i))) ≡ length (records (queue_of l.n l.heads room)))
-
-abbrev pub decreases-loop-i : goal.decreases-loop-i
-decreases-loop-i l = l.n - l.i
+invariant-loop-i l = (l.total ≤ 264 * l.i) × ((room : List ℕ) → length room ≡ room_size → l.total + length (records (tab (frame_at l.heads room) l.i (l.n - l.i))) ≡ length (records (queue_of l.n l.heads room)))

@@ -1,13 +1,6 @@
-use Rattle.std.proofs.Common.{false, refl}
-use Rattle.model.specs.Queue.{positive}
-use Rattle.model.specs.Service38.{service38}
-use Rattle.service.specs.Seen.{asking, handed}
+use Rattle.service.specs.Seen.{handed}
 use Rattle.service.proofs.Laws.{acts}
-use Rattle.transfer.specs.Later.{later38}
 use Rattle.transfer.proofs.service38.service38.Goals as goal
 
 pub returns : goal.returns
-returns c = let a = c.args in λ v.
-    let w = handed a.err a.given.now v in
-    let u = asking a.payload.now w in
-    c.answered.ensures service38 later38 u (c.ask38.ensures w) (acts u positive _ c.outcome-code.result a.given.now false a.given.now c.outcome-code.ensures refl)
+returns c = λ v. c.answered.ensures _ _ _ (c.ask38.ensures (handed _ _ v)) (acts _ _ _ _ _ _ _ c.outcome-outcome.ensures (cc))

@@ -10,24 +10,24 @@ returns-in_default c = rw c.in_default.is (missing c.args.pool.now c.args.limit)
 pub returns-then-pool-end : goal.returns-then-pool-end
 returns-then-pool-end c =
     let a = c.args in
-    let r = value_at a.values.now c.in-At.i in
-    rw c.in-At.is (outside a.pool.now a.limit r (omega arith))
+    let r = value_at a.values.now c.in-Some.i in
+    rw c.in-Some.is (outside a.pool.now a.limit r (omega arith))
 
 pub returns-then-limit-len : goal.returns-then-limit-len
 returns-then-limit-len c =
     let a = c.args in
-    let r = value_at a.values.now c.in-At.i in
-    rw c.in-At.is (long a.pool.now a.limit r (omega arith) (omega arith))
+    let r = value_at a.values.now c.in-Some.i in
+    rw c.in-Some.is (long a.pool.now a.limit r (omega arith) (omega arith))
 
 pub returns-then-err-ne0 : goal.returns-then-err-ne0
 returns-then-err-ne0 c =
     let a = c.args in
-    let r = value_at a.values.now c.in-At.i in
+    let r = value_at a.values.now c.in-Some.i in
     let e : c.low_byte-err.result ≡ r.err = omega (arith, c.low_byte-err.ensures, c.cell.ensures) in
-    rw (c.in-At.is, e) (fails a.pool.now a.limit r (omega arith) (omega arith) (λ z. c.if-err-ne0.true (e ∙ z)))
+    rw (c.in-Some.is, e) (fails a.pool.now a.limit r (omega arith) (omega arith) (λ z. c.if-err-ne0.true (e ∙ z)))
 
 pub returns : goal.returns
 returns c =
     let a = c.args in
-    let r = value_at a.values.now c.in-At.i in
-    rw (c.in-At.is, c.cell-start.ensures, c.cell-len.ensures) (succeeds a.pool.now a.limit r (omega arith) (omega arith) (omega arith))
+    let r = value_at a.values.now c.in-Some.i in
+    rw (c.in-Some.is, c.cell-start.ensures, c.cell-len.ensures) (succeeds a.pool.now a.limit r (omega arith) (omega arith) (omega arith))

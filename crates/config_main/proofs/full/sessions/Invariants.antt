@@ -1,9 +1,0 @@
--- So many rows, one a turn.
-use Rattle.std.proofs.Common.{◌-◌, ◌≤◌}
-use Rattle.config_main.proofs.full.sessions.Given as goal
-
-abbrev pub invariant-loop-i : goal.invariant-loop-i
-invariant-loop-i l = l.i ≤ 8
-
-abbrev pub decreases-loop-i : goal.decreases-loop-i
-decreases-loop-i l = 8 - l.i

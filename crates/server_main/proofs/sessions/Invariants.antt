@@ -1,9 +1,0 @@
--- So many rows, one a turn.
-use Rattle.std.proofs.Common.{◌-◌, ◌≤◌}
-use Rattle.server_main.proofs.sessions.Given as goal
-
-abbrev pub invariant-loop-i : goal.invariant-loop-i
-invariant-loop-i l = l.i ≤ l.n
-
-abbrev pub decreases-loop-i : goal.decreases-loop-i
-decreases-loop-i l = l.n - l.i
