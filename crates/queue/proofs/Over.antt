@@ -7,7 +7,7 @@ use Rattle.std.proofs.lemmas.Slice.{put_mid-paste, take-put_mid_below}
 use Rattle.queue.specs.Over.{over}
 
 -- the library's copy, of all of the bytes
-pasted : (d : List ℕ) (at : ℕ) (xs : List ℕ) → over d at xs ≡ paste d at xs (length xs)
+pub pasted : (d : List ℕ) (at : ℕ) (xs : List ℕ) → over d at xs ≡ paste d at xs (length xs)
 unfolding over
 pasted d at xs = sym (rw (take-length xs))
 

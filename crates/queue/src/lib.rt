@@ -28,10 +28,11 @@ fn place(count: u8) -> usize
 }
 
 // Bytes put over a buffer from a place on.
-#[tactic(auto, unfolding(crate::specs::Over::over))]
 fn write(buffer: &mut [u8], at: usize, bytes: &[u8])
     requires { at + length bytes.now ≤ length buffer.old }
     ensures { buffer.new ≡ over buffer.old at bytes.now }
 {
-    buffer[at..at + bytes.len()].copy_from_slice(bytes);
+    for (i, b) in bytes.iter().enumerate() {
+        buffer[at + i] = *b;
+    }
 }
