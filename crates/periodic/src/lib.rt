@@ -87,7 +87,12 @@ fn is_subscription(subs: &Subscriptions, i: usize, identifier: u16, client: u32)
 pub fn find(subs: &Subscriptions, count: u8, identifier: u16, client: u32) -> Option<usize>
     ensures { place_of result ≡ place (is_subscription identifier client) (table_of count subs.now) }
 {
-    (0..usize::from(count)).find(|&i| is_subscription(subs, i, identifier, client))
+    for i in 0..usize::from(count) {
+        if is_subscription(subs, i, identifier, client) {
+            return Some(i);
+        }
+    }
+    None
 }
 
 // The same identifier and client renews the first such entry; another is added at the end. How many entries stand now: none is said where
