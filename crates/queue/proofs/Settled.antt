@@ -2,7 +2,7 @@
 -- speaks of. `e` and `f` are what two answers leave of what was lent, in the order of the parameters.
 use Prim.Native.Nat.{ℕ}
 use mathlib.Core.Path.{◌≡◌, refl, ap, ap₂, sym, ◌∙◌}
-use mathlib.Core.List.{List}
+use mathlib.Core.List.{List, []}
 use lib.ListN.{length, replicate, length-replicate}
 use Rattle.model.specs.Queue.{QueueStep, QueueDrain, pushed}
 use Rattle.model.specs.Service22.{read_reply}
@@ -10,8 +10,9 @@ use Rattle.uds.proofs.Promise.{Settles, Answer}
 use Rattle.uds.proofs.Settled as Uds
 use Rattle.uds.proofs.Tab.{tab-length}
 use Rattle.uds.proofs.Refusals.{same_result}
+use Rattle.uds.specs.Result.{result_of}
 use Rattle.uds.specs.declared.result.Refusal.{Refusal}
-use Rattle.queue.specs.View.{room_size, frame_at, queue_of, queue_in, bytes_at, place_of, draft_of, step_in, reply_of, reading_of, drain_of, Drafts}
+use Rattle.queue.specs.View.{room_size, frame_at, queue_of, queue_in, bytes_at, place_of, draft_of, step_in, reply_of, reading_of, drain_of, Drafts, Pushes}
 use Rattle.std.specs.Prelude.{Option as Maybe, Some, None, Result}
 use Rattle.queue.specs.declared.drain.Drained.{Drained}
 use Rattle.queue.specs.declared.reply.Outbox.{Outbox}
@@ -57,6 +58,17 @@ step_settled q old r r' o o' p p' =
       heads = p.0 ∙ sym p'.0;
       room = p.1.0 ∙ sym p'.1.0;
     }
+
+-- the relation by itself settles the answer, how many frames wait, and the queue that is seen, of any room
+pub pushes_settled : (count to len : ℕ) (heads : List ℕ) (r r' : Result (Unit {0}) Refusal) (n n' : ℕ) (after after' : List ℕ) → Pushes count to len heads r n after → Pushes count to len heads r' n' after'
+    → (r ≡ r') × (n ≡ n') × ((room : List ℕ) → queue_of n after room ≡ queue_of n' after' room)
+pushes_settled count to len heads r r' n n' after after' p p' = (same_result (ap (λ (s : QueueStep). s.result) (step [])), counted n n' after after' [] [] (ap (λ (s : QueueStep). s.queue) (step [])), λ room. ap (λ (s : QueueStep). s.queue) (step room))
+  where
+    left : Result (Unit {0}) Refusal → ℕ → List ℕ → List ℕ → QueueStep
+    left s m heads room = record { result = result_of s; queue = queue_of m heads room }
+
+    step : (room : List ℕ) → left r n after room ≡ left r' n' after' room
+    step room = p.step room ∙ sym (p'.step room)
 
 -- a push: the queue also in every other room, and that the room is as it was
 pub record SamePush (r r' : Result (Unit {0}) Refusal) (o o' : Outbox) : Type 0 where

@@ -142,10 +142,20 @@ same-said config at fn r r' o o' z = record {
   queue = ap (λ (m : Step). m.state.queue) z;
 }
 
-pub replied_settled : (κs : _) (a : _) → Settles (replied.Post κs a) (λ x e y f. SameSaid x y e.1.1.1.0.now f.1.1.1.0.now)
+-- and which heads and room that queue lies in
+pub record SameReplied (r r' : Said) (o o' : Outbox) : Type 0 where
+  pub reply : SameSaid r r' o o'
+  pub heads : o.heads.ghost_name ≡ o'.heads.ghost_name
+  pub room : o.room.ghost_name ≡ o'.room.ghost_name
+
+pub replied_settled : (κs : _) (a : _) → Settles (replied.Post κs a) (λ x e y f. SameReplied x y e.1.1.1.0.now f.1.1.1.0.now)
 replied_settled κs a x e y f p q =
     let at : Session = record { session_type = a.1.0; level = 0; last_rx = 0 } in
-    same-said a.0.now at a.1.1.1.1.0.functional x y e.1.1.1.0.now f.1.1.1.0.now (said (p.1.1.step at Model.fresh_security [] refl) (q.1.1.step at Model.fresh_security [] refl))
+    record {
+      reply = same-said a.0.now at a.1.1.1.1.0.functional x y e.1.1.1.0.now f.1.1.1.0.now (said (p.1.1.step at Model.fresh_security [] refl) (q.1.1.step at Model.fresh_security [] refl));
+      heads = p.0 ∙ sym q.0;
+      room = p.1.0 ∙ sym q.1.0;
+    }
 
 -- of an effect the result, the state, what is seen of all that is lent, and every byte of the seed
 pub record SameAnswer (config : List ℕ) (r r' : Applied.Answer) (k k' heads heads' room room' : List ℕ) : Type 0 where

@@ -14,14 +14,20 @@ use Rattle.model.specs.State.{Session}
 use Rattle.model.specs.Tick.{Passed}
 use Rattle.uds.proofs.Promise.{Settles}
 use Rattle.uds.proofs.Settled.{said}
+use Rattle.uds.proofs.Refusals.{same_result}
+use Rattle.uds.specs.Result.{result_of}
+use Rattle.uds.specs.declared.result.Refusal.{Refusal}
+use Rattle.std.specs.Prelude.{Result, Ok, Err}
+use Rattle.ticking.specs.declared.Unsent.{Unsent}
 use Rattle.uds.proofs.Tab.{tab-length}
 use Rattle.queue.specs.View.{frame_at, queue_of}
+use Rattle.queue.specs.declared.reply.Outbox.{Outbox}
 use Rattle.periodic.specs.View.{table_of}
 use Rattle.security.specs.View.{security_of, seed_at}
 use Rattle.state.specs.View.{session_of, beside}
 use Rattle.state.specs.declared.SessionState.{SessionState}
 use Rattle.state.specs.declared.PendingRequest.{PendingRequest}
-use Rattle.state.proofs.Settled.{SameSaid, same-said, session, cleared_alike}
+use Rattle.state.proofs.Settled.{SameReplied, same-said, session, cleared_alike}
 use Rattle.ticking.specs.View.{expired_of, Lapses, Sent, sent_of, passed_of, Sends}
 use Rattle.ticking.proofs.s3.Reads as s3
 use Rattle.ticking.proofs.refreshed.Reads as refreshed
@@ -49,10 +55,14 @@ lapsed {w} {k} {k'} {k''} {a} {r} {r'} {t} p q = record {
 pub s3_settled : (κs : _) (a : _) → Settles (s3.Post κs a) (λ x e y f. SameLapsed x y e.1.1.0.now f.1.1.0.now)
 s3_settled κs a x e y f p q = lapsed p q
 
-pub refreshed_settled : (κs : _) (a : _) → Settles (refreshed.Post κs a) (λ x e y f. SameSaid x y e.1.1.1.0.now f.1.1.1.0.now)
+pub refreshed_settled : (κs : _) (a : _) → Settles (refreshed.Post κs a) (λ x e y f. SameReplied x y e.1.1.1.0.now f.1.1.1.0.now)
 refreshed_settled κs a x e y f p q =
     let at : Session = record { session_type = a.1.0; level = 0; last_rx = 0 } in
-    same-said a.0.now at false x y e.1.1.1.0.now f.1.1.1.0.now (said (p.1.1.step at Model.fresh_security [] false refl) (q.1.1.step at Model.fresh_security [] false refl))
+    record {
+      reply = same-said a.0.now at false x y e.1.1.1.0.now f.1.1.1.0.now (said (p.1.1.step at Model.fresh_security [] false refl) (q.1.1.step at Model.fresh_security [] false refl));
+      heads = p.0 ∙ sym q.0;
+      room = p.1.0 ∙ sym q.1.0;
+    }
 
 -- the due subscriptions: the answer, the table and the queue; beyond sixteen, every word and byte
 pub record SameSent (count : ℕ) (r r' : Sent) (subs subs' heads heads' room room' : List ℕ) : Type 0 where
@@ -92,5 +102,34 @@ passed {subs = subs} {subs'} {heads} {heads'} {room} {room'} {count} {r = r} {r'
           lent = lent;
         }
 
-pub send_due_settled : (κs : _) (a : _) → Settles (send-due.Post κs a) (λ x e y f. SameSent a.1.0 (sent_of x e.1.1.0.now) (sent_of y f.1.1.0.now) e.0.now f.0.now e.1.1.0.now.heads.now f.1.1.0.now.heads.now e.1.1.0.now.room.now f.1.1.0.now.room.now)
-send_due_settled κs a x e y f p q = passed p.1.1 q.1.1
+-- an answer is told whole by the numbers that are seen of it
+same_answer : (x y : Result (Unit {0}) Unsent) (o o' : Outbox) → sent_of x o ≡ sent_of y o' → x ≡ y
+same_answer x y o o' e = read x o ∙ ap₂ made (same_result (number x o ∙ ap (λ (r : Sent). r.result) e ∙ sym (number y o'))) (ap (λ (r : Sent). r.err) e) ∙ sym (read y o')
+  where
+    why : Result (Unit {0}) Unsent → Result (Unit {0}) Refusal
+    why (Ok done) = Ok done
+    why (Err unsent) = Err unsent.why
+
+    made : Result (Unit {0}) Refusal → ℕ → Result (Unit {0}) Unsent
+    made (Ok done) err = Ok done
+    made (Err why) err = Err (record { why = why; err = err })
+
+    number : (x : Result (Unit {0}) Unsent) (o : Outbox) → result_of (why x) ≡ (sent_of x o).result
+    number (Ok done) o = refl
+    number (Err unsent) o = refl
+
+    read : (x : Result (Unit {0}) Unsent) (o : Outbox) → x ≡ made (why x) (sent_of x o).err
+    read (Ok done) o = refl
+    read (Err unsent) o = refl
+
+-- and the answer itself, and which heads and room the frames lie in
+pub record SameSending (count : ℕ) (x y : Result (Unit {0}) Unsent) (o o' : Outbox) (subs subs' : List ℕ) : Type 0 where
+  pub answer : x ≡ y
+  pub sent : SameSent count (sent_of x o) (sent_of y o') subs subs' o.heads.now o'.heads.now o.room.now o'.room.now
+  pub heads : o.heads.ghost_name ≡ o'.heads.ghost_name
+  pub room : o.room.ghost_name ≡ o'.room.ghost_name
+
+pub send_due_settled : (κs : _) (a : _) → Settles (send-due.Post κs a) (λ x e y f. SameSending a.1.0 x y e.1.1.0.now f.1.1.0.now e.0.now f.0.now)
+send_due_settled κs a x e y f p q =
+    let s = passed p.1.1 q.1.1 in
+    record { answer = same_answer x y e.1.1.0.now f.1.1.0.now s.answer; sent = s; heads = p.0 ∙ sym q.0; room = p.1.0 ∙ sym q.1.0 }
