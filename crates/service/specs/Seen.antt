@@ -1,4 +1,4 @@
--- What a service sees of the numbers and of what is lent, and what its answer means. A service is lent only a part of what it may see: its promise is for
+-- What a service sees of the numbers and of what is lent, and what its answer means. A service is lent a request and reads only a part of it: its promise is for
 -- every `v`, with that part in its place.
 use Rattle.std.specs.Prelude.{ℕ, ◌≡◌, true, false, List}
 use Rattle.model.specs.Numbers.{Moment, max_frame}
