@@ -166,3 +166,31 @@ module _ (subs : List ℕ) (count frames : ℕ) (heads room : List ℕ) (t : Mom
   pub all-passed : (r : Sent) (subs' heads' room' : List ℕ) → count ≤ max_periodic → passed_of r (table_of count subs') heads' room' ≡ pass_all_at max_frame t table (table_of count subs) (so_far [] (queue_of frames heads room))
       → Sends subs count frames heads room t table r subs' heads' room'
   all-passed r subs' heads' room' h e = record { passed = λ l. e; beyond = λ l. absurd (omega arith) }
+
+-- the walk has come to entry i: passing what is left gives what passing the whole table gives
+pub record Walks (subs : List ℕ) (count frames : ℕ) (heads room : List ℕ) (t : Moment) (table : Table) (i : ℕ) (subs' : List ℕ) (frames' : ℕ) (heads' room' : List ℕ) : Type 0 where
+  pub left : pass_all_at max_frame t table (table_of count subs) (so_far [] (queue_of frames heads room))
+      ≡ pass_all_at max_frame t table (tab (entry_at subs') i (count - i)) (so_far (table_of i subs') (queue_of frames' heads' room'))
+
+module _ {subs : List ℕ} {count frames : ℕ} {heads room : List ℕ} {t : Moment} {table : Table} {i : ℕ} {subs' : List ℕ} {frames' : ℕ} {heads' room' : List ℕ}
+    (w : Walks subs count frames heads room t table i subs' frames' heads' room') (h : i < count) where
+  -- it is not due, and stands
+  pub passes_over : false ≡ due_at count subs' i t → Walks subs count frames heads room t table (i + 1) subs' frames' heads' room'
+  passes_over e = record { left = not-due max_frame t table (entry_at subs') count i _ _ w.left h (judged count i subs' t false h e) }
+
+  module _ (d : true ≡ due_at count subs' i t) where
+    -- it was sent, and the walk goes on
+    pub walks_on : {n : ℕ} {subs'' heads'' room'' : List ℕ} → Goes subs' i frames' heads' room' t table (record { frames = n; result = 0; err = 0 }) subs'' heads'' room''
+        → Walks subs count frames heads room t table (i + 1) subs'' n heads'' room''
+    walks_on {n} {subs''} {heads''} {room''} g = record {
+      left = goes_on max_frame t table (entry_at subs') count i _ _ w.left h (judged count i subs' t true h d) (entry_at subs'') g.others (record { frames = n; result = 0; err = 0 }) (queue_of n heads'' room'') g.passed refl refl;
+    }
+
+    -- a refusal, and the rest stand
+    pub walk_ends : {r : Sent} {subs'' heads'' room'' : List ℕ} → count ≤ max_periodic → Goes subs' i frames' heads' room' t table r subs'' heads'' room'' → (r.result ≡ 0 → ⊥)
+        → Sends subs count frames heads room t table r subs'' heads'' room''
+    walk_ends {r} {subs''} {heads''} {room''} l g n = all-passed subs count frames heads room t table r subs'' heads'' room'' l
+        (ends max_frame t table (entry_at subs') count i _ _ w.left h (judged count i subs' t true h d) (entry_at subs'') g.others r (queue_of r.frames heads'' room'') g.passed n)
+
+-- what a turn of `send_due` does
+pub ruleset turns = (passes_over, walks_on, walk_ends)

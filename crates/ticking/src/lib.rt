@@ -144,6 +144,7 @@ fn send_entry(
 
 // The due entries in table order. Sending changes an entry alone, so each is judged as it stood at first. A refusal ends the walk, and the rest
 // stand. A count that no table has sends nothing.
+#[tactic(auto, using(crate::proofs::Walk::turns))]
 pub fn send_due(
     subs: &mut Subscriptions,
     count: u8,

@@ -1,14 +1,10 @@
-use Rattle.std.proofs.Common.{[], ◌-◌, ◌≡◌}
-use Rattle.model.specs.Numbers.{max_frame}
-use Rattle.uds.specs.Table.{tab}
-use Rattle.uds.specs.Values as Values
-use Rattle.queue.specs.View.{queue_in}
-use Rattle.periodic.specs.View.{entry_at, table_of}
-use Rattle.ticking.specs.View.{pass_all_at, so_far}
+use Rattle.std.proofs.Common.{◌≡◌}
+use Rattle.uds.specs.Values.{table_of}
+use Rattle.ticking.proofs.Walk.{Walks}
 use Rattle.ticking.proofs.send_due.Given as goal
 
 abbrev pub invariant-loop-i : goal.invariant-loop-i
 invariant-loop-i l =
-    (l.outbox.heads.ghost_name ≡ l.initial.outbox.heads.ghost_name) × (l.outbox.room.ghost_name ≡ l.initial.outbox.room.ghost_name)
-    × (pass_all_at max_frame l.t.0 (Values.table_of l.values l.pool) (table_of l.count l.initial.subs) (so_far [] (queue_in l.initial.outbox))
-    ≡ pass_all_at max_frame l.t.0 (Values.table_of l.values l.pool) (tab (entry_at l.subs) l.i (l.count - l.i)) (so_far (table_of l.i l.subs) (queue_in l.outbox)))
+    let o = l.initial.outbox in
+    (l.outbox.heads.ghost_name ≡ o.heads.ghost_name) × (l.outbox.room.ghost_name ≡ o.room.ghost_name)
+    × Walks l.initial.subs l.count o.count o.heads.now o.room.now l.t.0 (table_of l.values l.pool) l.i l.subs l.outbox.count l.outbox.heads.now l.outbox.room.now
