@@ -60,6 +60,7 @@ fn key_fits(config: &Config, level: u8, len: usize) -> bool
 }
 
 // A key is sent: locked 0x37; no seed of the level awaits one 0x24; of another length 0x13, the seed kept and nothing counted.
+#[inline(always)]
 fn ask_key(request: &Request, k: &Security, level: u8) -> Result<Act, u8>
     requires { (ready27 (config_of request.now.config.now) (security_of k.now) request.now.t.0 ≡ true) × (1 ≤ length request.now.payload.now) }
     ensures { (v : Seen) → Asked (λ u. Rules.send_key u level) (later_key level) (secured k.now (received_at request.now.t.0 (asking request.now.payload.now (configured request.now.config.now v)))) result }
@@ -83,7 +84,8 @@ fn ask_key(request: &Request, k: &Security, level: u8) -> Result<Act, u8>
     })
 }
 
-// Absent is short, access type 0 is 0x12.
+// Absent is short, access type 0 is 0x12. Inlined, and `ask_key` too: a call would take the request's address, and all of its record would lie on the stack.
+#[inline(always)]
 fn ask_access(request: &Request, k: &Security) -> Result<Act, u8>
     requires { ready27 (config_of request.now.config.now) (security_of k.now) request.now.t.0 ≡ true }
     ensures { (v : Seen) → Asked Rules.service27 later27 (secured k.now (received_at request.now.t.0 (asking request.now.payload.now (configured request.now.config.now v)))) result }

@@ -10,8 +10,9 @@ use queue::Room;
 use service::{Act, Part, Request, Spoken};
 use uds::nrc::Nrc;
 
-// Before the act's outcome is known.
+// Before the act's outcome is known. Inlined: a call would take the request's address, and all of its record would lie on the stack.
 #[tactic(auto, using(crate::proofs::Laws2E::ways2E))]
+#[inline(always)]
 pub fn ask2E(request: &Request) -> Result<Act, u8>
     ensures { (v : Seen) → Asked Rules.service2E later2E (asking request.now.payload.now (configured request.now.config.now (in_session request.now.session request.now.level v))) result }
 {
