@@ -59,7 +59,7 @@ fn key_fits(config: &Config, level: u8, len: usize) -> bool
     row.is_none() || len == config::key_length(config, row)
 }
 
-// A key is sent: locked 0x37; no seed of the level awaits one 0x24; of another length 0x13, the seed kept and nothing counted.
+// A key is sent: locked 0x37; no seed of the level awaits one 0x24; of another length 0x13, the seed kept and nothing counted. Inlined with `ask_access`, see there.
 #[inline(always)]
 fn ask_key(request: &Request, k: &Security, level: u8) -> Result<Act, u8>
     requires { (ready27 (config_of request.now.config.now) (security_of k.now) request.now.t.0 ≡ true) × (1 ≤ length request.now.payload.now) }
@@ -84,7 +84,8 @@ fn ask_key(request: &Request, k: &Security, level: u8) -> Result<Act, u8>
     })
 }
 
-// Absent is short, access type 0 is 0x12. Inlined, and `ask_key` too: a call would take the request's address, and all of its record would lie on the stack.
+// Absent is short, access type 0 is 0x12. A question and a request ask it. Inlined: as a call it would need the request's address, and its maker would keep all
+// of the record on the stack. The compiler inlines by itself what other services ask.
 #[inline(always)]
 fn ask_access(request: &Request, k: &Security) -> Result<Act, u8>
     requires { ready27 (config_of request.now.config.now) (security_of k.now) request.now.t.0 ≡ true }

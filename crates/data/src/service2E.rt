@@ -10,7 +10,8 @@ use queue::Room;
 use service::{Act, Part, Request, Spoken};
 use uds::nrc::Nrc;
 
-// Before the act's outcome is known. Inlined: a call would take the request's address, and all of its record would lie on the stack.
+// Before the act's outcome is known. A question and a request ask it. Inlined: as a call it would need the request's address, and its maker would keep all of the
+// record on the stack.
 #[tactic(auto, using(crate::proofs::Laws2E::ways2E))]
 #[inline(always)]
 pub fn ask2E(request: &Request) -> Result<Act, u8>
